@@ -1,0 +1,3 @@
+pub mod Lists
+pub mod Found
+pub mod Ascii

@@ -1,0 +1,16 @@
+pub mod Map
+pub mod Order
+pub mod Lines
+pub mod Area
+pub mod Accepted
+pub mod Intervals
+pub mod Walk
+pub mod OrderCheck
+pub mod Records
+pub mod Ports
+pub mod Refusals
+pub mod Calls
+pub mod Words
+pub mod Lookup
+pub mod Plain
+pub mod Text

@@ -1,0 +1,4 @@
+//! Glue: a name only.
+
+/// Not given, not used.
+pub struct Region;
