@@ -1,0 +1,2 @@
+// 16-bit fields in bytes, filling and copying sections of one lent slice of words, bytes to words and back.
+pub mod field;
