@@ -19,6 +19,7 @@ use lib.Seq.{
   ext-getD,
   drop-cons,
   length-take-le,
+  take-suc,
 }
 
 -- j stands outside the n places from `at` on
@@ -164,3 +165,15 @@ module _ {A : Type 0} where
       ap (λ (m : List A). sets l at (take (suc n) m)) (drop-cons l at d (omega arith))
       ∙ ap (λ (m : List A). sets m (suc at) (part l (suc at) n)) (set-getD l at d)
       ∙ sets-part l (suc at) n d (omega arith)
+
+  -- one element more, and a section that ends in a store
+  pub part-suc : (l : List A) (at n : ℕ) (d : A) → at + n < length l → part l at (suc n) ≡ part l at n ++ (getD l (at + n) d ∷ [])
+  part-suc l at n d h =
+      take-suc (drop at l) n d (rw length-drop (omega arith))
+      ∙ ap (λ (x : A). part l at n ++ (x ∷ [])) (getD-drop at l n d)
+
+  pub part-set-last : (l : List A) (at n : ℕ) (v : A) → at + n < length l → part (set l (at + n) v) at (suc n) ≡ part l at n ++ (v ∷ [])
+  part-set-last l at n v h =
+      part-suc (set l (at + n) v) at n v (rw length-set h)
+      ∙ ap (λ (m : List A). m ++ (getD (set l (at + n) v) (at + n) v ∷ [])) (part-sets-out l (at + n) (v ∷ []) at n v (inl (omega arith)) (omega arith))
+      ∙ ap (λ (x : A). part l at n ++ (x ∷ [])) (getD-set-same l (at + n) v v h)
