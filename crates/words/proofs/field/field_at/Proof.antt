@@ -3,7 +3,6 @@
 use borrow.Author.Needs.{needs}
 use native.Mathlib.Omega.{arith}
 use Prim.Native.Nat.{_+_}
-use mathlib.Core.Path.{_≡_}
 use Rattle.paper.specs.Map.{word}
 use Rattle.words.proofs.field.field_at.Statement.{statement}
 use Rattle.words.proofs.field.field_at.Tie as tie
@@ -24,10 +23,14 @@ wide-byte-requires-2 : tie.Need-wide-byte-requires-2
 wide-byte-requires-2 c κs = search needs
 
 mul-result : tie.Need-mul-result
-mul-result c = omega (arith, c .before .shared-slice-known3 .given (c .before .before .before .before .before .args .at + 1))
+mul-result c =
+    let at = c .before .before .before .before .before .args .at in
+    omega (arith, c .before .shared-slice-known3 .given (at + 1), c .before .before .before .shared-slice-known2 .given at)
 
 add-result : tie.Need-add-result
-add-result c = omega (arith, c .before .shared-slice-known3 .given (c .before .before .before .before .before .args .at + 1), c .before .before .before .shared-slice-known2 .given (c .before .before .before .before .before .args .at))
+add-result c =
+    let at = c .before .before .before .before .before .args .at in
+    omega (arith, c .before .shared-slice-known3 .given (at + 1), c .before .before .before .shared-slice-known2 .given at)
 
 returns : tie.Need-returns
 unfolding word
