@@ -1,6 +1,7 @@
 -- Laws on a section of one list, over its offset and length: `sets l at vs` is l with vs stored from `at` on (lib.Seq).
 -- Rests on lib.Seq's laws of one store.
 use Prim.Native.Nat.{ℕ, zero, suc, _+_, _≤_, _<_}
+use native.Mathlib.Nat.{add-zero}
 use native.Mathlib.Omega.{arith}
 use mathlib.Core.Path.{_≡_, refl, sym, ap, _∙_, subst}
 use mathlib.Core.Logic.{_⊎_, inl, inr, _≢_}
@@ -44,6 +45,17 @@ module _ {A : Type 0} where
   sets-snoc l at [] v = ap (λ (i : ℕ). set l i v) (omega arith)
   sets-snoc l at (a ∷ vs) v =
       sets-snoc (set l at a) (suc at) vs v ∙ ap (λ (i : ℕ). set (sets (set l at a) (suc at) vs) i v) (omega arith)
+
+  -- a run of stores after another
+  pub sets-append : (l : List A) (at : ℕ) (us vs : List A) → sets l at (us ++ vs) ≡ sets (sets l at us) (at + length us) vs
+  sets-append l at [] vs = ap (λ (i : ℕ). sets l i vs) (sym (add-zero at))
+  sets-append l at (u ∷ us) vs =
+      sets-append (set l at u) (suc at) us vs ∙ ap (λ (i : ℕ). sets (sets (set l at u) (suc at) us) i vs) (omega arith)
+
+  -- the same, as a loop has it: n are stored, and vs come next
+  pub sets-next : (l : List A) (at : ℕ) (us vs : List A) {m : List A} {n : ℕ} → m ≡ sets l at us → length us ≡ n
+      → sets m (at + n) vs ≡ sets l at (us ++ vs)
+  sets-next l at us vs e long = rw (e, sets-append, long)
 
   -- a read outside the section, and inside
   pub getD-sets-out : (l : List A) (at : ℕ) (vs : List A) (j : ℕ) (d : A) → Apart j at (length vs) → getD (sets l at vs) j d ≡ getD l j d

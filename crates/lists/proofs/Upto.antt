@@ -7,7 +7,7 @@ use mathlib.Core.Path.{_≡_, refl, sym, ap, _∙_}
 use mathlib.Core.Logic.{_≢_}
 use mathlib.Core.Bool.{Bool, true, false, cond}
 use mathlib.Core.List.{List, [], _∷_, _++_, map, flatMap, append-assoc, map-append}
-use lib.ListN.{length, getD, set, length-set, length-map, length-append, List·getD-map}
+use lib.ListN.{replicate, length, getD, set, length-set, length-map, length-append, List·getD-map}
 use lib.Seq.{ext-getD, getD-set-same, getD-set-other}
 use Rattle.lists.specs.Lists.{from, upto, keep, count, one}
 
@@ -64,7 +64,19 @@ getD-from n (suc k) (suc i) d h = getD-from (suc n) k i d (omega arith) ∙ next
     next : (n i : ℕ) → suc n + i ≡ n + suc i
     next n i = omega arith
 
+module _ {A : Type 0} (f g : ℕ → A) (same : (i : ℕ) → f (suc i) ≡ g i) where
+  -- what is made of them one number further on
+  pub map-from-suc : (n k : ℕ) → map f (from (suc n) k) ≡ map g (from n k)
+  map-from-suc n zero = refl
+  map-from-suc n (suc k) =
+      ap (λ (x : A). x ∷ map f (from (suc (suc n)) k)) (same n) ∙ ap (λ (r : List A). g n ∷ r) (map-from-suc (suc n) k)
+
 -- ---- two lists joined
+
+module _ {A : Type 0} where
+  pub replicate-snoc : (n : ℕ) (a : A) → replicate (suc n) a ≡ replicate n a ++ (a ∷ [])
+  replicate-snoc zero a = refl
+  replicate-snoc (suc n) a = ap (λ (r : List A). a ∷ r) (replicate-snoc n a)
 
 module _ {A : Type 0} where
   pub keep-append : (f : A → Bool) (xs ys : List A) → keep f (xs ++ ys) ≡ keep f xs ++ keep f ys

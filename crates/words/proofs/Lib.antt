@@ -1,4 +1,2 @@
-pub mod Rows
-pub mod Snoc
 pub mod Turns
 pub mod RoundTrip

@@ -11,7 +11,7 @@ use Rattle.lists.specs.Lists.{upto}
 use Rattle.lists.proofs.Sections.{sets-part}
 use Rattle.paper.specs.Map.{word}
 use Rattle.paper.specs.Words.{wordsFrom, bytesFrom, putWords}
-use Rattle.words.proofs.Rows.{map-from-suc}
+use Rattle.lists.proofs.Upto.{map-from-suc}
 
 -- every number of a list is below n
 abbrev pub Below : ℕ → List ℕ → Type 0

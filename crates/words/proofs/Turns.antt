@@ -1,5 +1,5 @@
 -- A turn of each loop over plain lists: what stands after i turns, with one store more, is what stands after i + 1.
--- Rests on Rows, Snoc, lists.Sections and paper's words.
+-- Rests on lists.Sections, lists.Upto and paper's words.
 use Prim.Native.Nat.{ℕ, suc, _+_, _*_, _/_, _%_, _≤_, _<_}
 use native.Mathlib.Nat.{zero-add}
 use native.Mathlib.Numerals.{add-one}
@@ -10,11 +10,10 @@ use mathlib.Core.List.{List, [], _∷_, _++_, map, flatMap, map-append}
 use lib.ListN.{length, getD, take, set, replicate, length-replicate, length-map}
 use lib.Seq.{sets, take-suc, length-take-le}
 use Rattle.lists.specs.Lists.{upto}
-use Rattle.lists.proofs.Sections.{Disjoint, Apart, part, length-part, getD-sets-out}
+use Rattle.lists.proofs.Sections.{Disjoint, Apart, part, length-part, getD-sets-out, part-suc, sets-next}
 use Rattle.paper.specs.Map.{word}
 use Rattle.paper.specs.Words.{wordsFrom, bytesFrom, putWords}
-use Rattle.words.proofs.Rows.{length-from, upto-snoc}
-use Rattle.words.proofs.Snoc.{replicate-snoc, part-snoc, flatMap-append, sets-next}
+use Rattle.lists.proofs.Upto.{length-from, upto-suc, replicate-snoc, flatMap-append}
 
 -- ---- filling and copying
 
@@ -40,7 +39,7 @@ module _ (area₀ : List ℕ) (src dst n : ℕ) (within : src + n ≤ length are
   copy-again i {area} h e =
       ap (set area (dst + i)) (ap (λ (l : List ℕ). getD l (src + i) 0) e ∙ source-stands i h)
       ∙ sets-next area₀ dst (part area₀ src i) (getD area₀ (src + i) 0 ∷ []) e (length-part area₀ src i (omega arith))
-      ∙ ap (sets area₀ dst) (sym (part-snoc area₀ src i 0 (omega arith)) ∙ ap (part area₀ src) (sym (add-one i)))
+      ∙ ap (sets area₀ dst) (sym (part-suc area₀ src i 0 (omega arith)) ∙ ap (part area₀ src) (sym (add-one i)))
 
 -- ---- bytes to words
 
@@ -56,7 +55,7 @@ unfolding wordsFrom
 length-wordsFrom bytes = length-firstWords bytes (length bytes / 2)
 
 firstWords-snoc : (bytes : List ℕ) (i : ℕ) → firstWords bytes (suc i) ≡ firstWords bytes i ++ (word bytes (2 * i) ∷ [])
-firstWords-snoc bytes i = ap (map (λ j. word bytes (2 * j))) (upto-snoc i) ∙ map-append (λ j. word bytes (2 * j)) (upto i) (i ∷ [])
+firstWords-snoc bytes i = ap (map (λ j. word bytes (2 * j))) (upto-suc i) ∙ map-append (λ j. word bytes (2 * j)) (upto i) (i ∷ [])
 
 pub words-again : (bytes words₀ : List ℕ) (i : ℕ) {words : List ℕ} {w : ℕ} → words ≡ sets words₀ 0 (firstWords bytes i) → w ≡ word bytes (2 * i)
     → set words i w ≡ sets words₀ 0 (firstWords bytes (i + 1))
