@@ -1,6 +1,10 @@
 -- A link's fields, by the number of nodes that a caller holds: what each accessor of a link returns.
 -- Rests on paper's Map.
-use Prim.Native.Nat.{ℕ, _+_, _*_}
+use Prim.Native.Nat.{ℕ, _+_, _*_, _<_}
+use native.Mathlib.Omega.{arith}
+use mir.Syntax.{w8}
+use mir.Val.{Fits}
+use lib.ListN.{getD}
 use mathlib.Core.Path.{_≡_, sym, ap}
 use mathlib.Core.List.{List}
 use Rattle.paper.specs.Map.{N, word, linkAt, linkFrom, linkOut, linkTo, linkIn}
@@ -25,3 +29,8 @@ module _ (b : List ℕ) (n k : ℕ) (nodes : N b ≡ n) where
   pub in-field : word b (4 * n + 8 * k + 6) ≡ linkIn b k
   unfolding linkIn
   in-field = ap (λ (p : ℕ). word b (p + 6)) at
+
+-- a field of bytes is below 65536
+pub word-below : (b : List ℕ) → ((i : ℕ) → Fits w8 (getD b i 0)) → (at : ℕ) → word b at < 65536
+unfolding word
+word-below b bytes at = omega (arith, bytes at, bytes (at + 1))

@@ -1,1 +1,5 @@
+pub mod ListsTests
 pub mod Fields
+pub mod PortNumbers
+pub mod Reading
+pub mod Answers

@@ -2,11 +2,27 @@
 -- Rests on paper's Map.
 use Prim.Native.Nat.{ℕ, _+_, _*_, _≤_}
 use mathlib.Core.Path.{_≡_}
+use mathlib.Core.Bool.{Bool, _&&_}
 use mathlib.Core.List.{List}
 use lib.ListN.{length}
-use Rattle.paper.specs.Map.{N, L, P}
+use lib.Dec.{leb}
+use Rattle.paper.specs.Map.{N, L, P, ins, outs}
 
 -- n is the number of nodes, and link k's record stands within the bytes
 pub record HasLink (b : List ℕ) (n k : ℕ) : Type 0 where
   pub nodes : N b ≡ n
   pub inside : 4 * n + 8 * k + 8 ≤ length b
+
+-- "at most 255 inputs and 255 outputs on a node"
+abbrev pub fewPorts : List ℕ → ℕ → Bool
+fewPorts b v = leb (ins b v) 255 && leb (outs b v) 255
+
+-- a map of n nodes, l links and p ports that refusals 1 and 2 let pass
+pub record ReadWell (b : List ℕ) (n l p : ℕ) : Type 0 where
+  pub nodes : N b ≡ n
+  pub links : L b ≡ l
+  pub ports : P b ≡ p
+  pub size : length b ≡ 4 * n + 8 * l + 12
+  pub few-nodes : n ≤ 512
+  pub few-links : l ≤ 2048
+  pub few-ports : p ≤ 4096

@@ -1,2 +1,4 @@
-// The step map: its fields, its reader, its ports, and the check of its links.
+// The step map: its fields, its ports, its reader, and the check of its links.
 pub mod access;
+pub mod ports;
+pub mod read;

@@ -1,0 +1,61 @@
+-- Each answer's meaning tells its cases apart, and an answer with sizes says that refusals 1 and 2 let the map pass.
+-- Rests on Said, Formed and Reading.
+use Prim.Native.Nat.{ℕ}
+use native.Mathlib.Omega.{arith}
+use mathlib.Core.Path.{_≡_, refl, sym, ap, _∙_}
+use mathlib.Core.Bool.{Bool, true, false}
+use mathlib.Core.List.{List}
+use Rattle.paper.specs.Map.{N, L, P, wellFormed, withinLimits}
+use Rattle.paper.specs.Refusals.{Answer, refused, answered}
+use Rattle.stepmap.specs.declared.read.StepMap.{StepMap}
+use Rattle.stepmap.specs.declared.read.StepMap.the-variants.{Malformed, TooLarge, Sized}
+use Rattle.stepmap.specs.Formed.{ReadWell}
+use Rattle.stepmap.specs.Said.{mapSaid}
+use Rattle.stepmap.proofs.Reading.{formed-size, limits, ruled, refused-1, refused-2, sized}
+
+abbrev Sizes : Type 0
+Sizes = ℕ × ℕ × ℕ
+
+same-sizes : {s t : Sizes} → answered s ≡ answered t → s ≡ t
+same-sizes e = cc
+
+pub mapSaid-injective : (r s : StepMap) → mapSaid r ≡ mapSaid s → r ≡ s
+mapSaid-injective Malformed Malformed e = refl
+mapSaid-injective Malformed TooLarge e = cc
+mapSaid-injective Malformed (Sized n l p) e = cc
+mapSaid-injective TooLarge Malformed e = cc
+mapSaid-injective TooLarge TooLarge e = refl
+mapSaid-injective TooLarge (Sized n l p) e = cc
+mapSaid-injective (Sized n l p) Malformed e = cc
+mapSaid-injective (Sized n l p) TooLarge e = cc
+mapSaid-injective (Sized n l p) (Sized n' l' p') e = ap (λ (t : Sizes). Sized (t .0) (t .1) (t .2)) (same-sizes e)
+
+-- an answer is no refusal
+apart : {s : Sizes} {a : Answer Sizes} {n p : ℕ} → answered s ≡ a → refused n p ≡ a → ⊥
+apart e f = let z : _≡_ {A = ℕ} 0 1 = cc in omega arith
+
+module _ (b : List ℕ) (n l p : ℕ) (said : mapSaid (Sized n l p) ≡ ruled b) where
+  passing : wellFormed b ≡ true → withinLimits b ≡ true → ReadWell b n l p
+  passing formed within =
+      let sizes : _≡_ {A = Sizes} (N b, L b, P b) (n, l, p) = same-sizes (sized b refl refl refl formed within ∙ sym said) in
+      let nodes : N b ≡ n = ap (λ (t : Sizes). t .0) sizes in
+      let links : L b ≡ l = ap (λ (t : Sizes). t .1) sizes in
+      let ports : P b ≡ p = ap (λ (t : Sizes). t .2) sizes in
+      let few = limits b within in
+      record {
+        nodes = nodes;
+        links = links;
+        ports = ports;
+        size = omega (arith, formed-size b formed);
+        few-nodes = omega arith;
+        few-links = omega arith;
+        few-ports = omega arith;
+      }
+
+  pub read-well : ReadWell b n l p
+  read-well = go (wellFormed b) refl (withinLimits b) refl
+    where
+      go : (w : Bool) → wellFormed b ≡ w → (i : Bool) → withinLimits b ≡ i → ReadWell b n l p
+      go false h i g = absurd (apart said (refused-1 b h))
+      go true h false g = absurd (apart said (refused-2 b h g))
+      go true h true g = passing h g

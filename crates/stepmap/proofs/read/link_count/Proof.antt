@@ -1,0 +1,22 @@
+-- `stepmap::read::link_count` meets its contract: the field stands in the trailer.
+-- Rests on paper's `L`.
+use Rattle.paper.specs.Map.{trailer, L}
+use borrow.Author.Needs.{needs}
+use Rattle.stepmap.proofs.read.link_count.Statement.{statement}
+use Rattle.stepmap.proofs.read.link_count.Tie as tie
+
+sub-number-at : tie.Need-sub-number-at
+sub-number-at c = search needs
+
+add-number-at : tie.Need-add-number-at
+add-number-at c = search needs
+
+number-at-requires : tie.Need-number-at-requires
+number-at-requires c κs = search needs
+
+returns : tie.Need-returns
+unfolding trailer L
+returns c = c .number-at .ensures
+
+pub link-count-spec : {M : Type 1} → statement M
+link-count-spec = tie.close (tie.spec sub-number-at add-number-at number-at-requires returns)
