@@ -1,0 +1,6 @@
+pub mod ListsCount
+pub mod ListsCompare
+pub mod ListsIn
+pub mod ListsFound
+pub mod Ports
+pub mod Links
