@@ -4,3 +4,5 @@ pub mod ListsIn
 pub mod ListsFound
 pub mod Ports
 pub mod Links
+pub mod Queue
+pub mod Follow

@@ -132,6 +132,19 @@ same-length n xs ys bx by h =
 
 -- ---- lists without repeats
 
+-- one more number, below the bound and new
+pub below-more : (k n : ℕ) (xs : List ℕ) → k < n → Below n xs → Below n (k ∷ xs)
+below-more k n xs h below j l =
+    let ne : j ≡ k → ⊥ = λ e. omega arith in
+    omega (arith, below j l, one-ne j k ne)
+
+pub once-more : (k : ℕ) (xs : List ℕ) → times k xs ≡ 0 → ((j : ℕ) → times j xs ≤ 1) → (j : ℕ) → times j (k ∷ xs) ≤ 1
+once-more k xs new once j = go (ℕ-discrete j k)
+  where
+    go : Dec (j ≡ k) → one (eqb j k) + times j xs ≤ 1
+    go (yes e) = omega (arith, one-eq j k e, ap (λ (i : ℕ). times i xs) e)
+    go (no ne) = omega (arith, one-ne j k ne, once j)
+
 -- no more of them than numbers below the bound
 pub fits : (n : ℕ) (xs : List ℕ) → Below n xs → ((k : ℕ) → times k xs ≤ 1) → length xs ≤ n
 fits n xs below once =

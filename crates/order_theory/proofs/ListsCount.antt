@@ -69,6 +69,14 @@ pub cond-mono : (t : Bool) {m n : ℕ} → m ≤ n → cond t m 0 ≤ cond t n 0
 cond-mono true h = h
 cond-mono false h = omega arith
 
+pub cond-small : (t : Bool) (n : ℕ) → cond t n 0 ≤ n
+cond-small true n = omega arith
+cond-small false n = omega arith
+
+pub cond-one : (t : Bool) → cond t 1 0 ≡ one t
+cond-one true = refl
+cond-one false = refl
+
 -- where x is n, a test of x is a test of n
 pub here : (f : ℕ → Bool) (n x : ℕ) → cond (f x) (one (eqb n x)) 0 ≡ cond (f n) (one (eqb n x)) 0
 here f n x = go (ℕ-discrete n x)
@@ -95,6 +103,11 @@ times-keep f n (x ∷ xs) =
     step : (t : Bool) (ys : List ℕ) → times n (cond t (x ∷ ys) ys) ≡ cond t (one (eqb n x)) 0 + times n ys
     step true ys = refl
     step false ys = omega arith
+
+-- one more at the end, where a test says so
+pub times-append-cond : (n x : ℕ) (xs : List ℕ) (t : Bool) → times n (xs ++ cond t (x ∷ []) []) ≡ times n xs + cond t (one (eqb n x)) 0
+times-append-cond n x xs true = omega (arith, count-append (eqb n) xs (x ∷ []))
+times-append-cond n x xs false = omega (arith, count-append (eqb n) xs [])
 
 -- ---- numbers in a row
 
@@ -129,11 +142,7 @@ length-from n zero = refl
 length-from n (suc k) = ap suc (length-from (suc n) k)
 
 pub times-keep-upto : (f : ℕ → Bool) (k n : ℕ) → k < n → times k (keep f (upto n)) ≡ one (f k)
-times-keep-upto f k n h = times-keep f k (upto n) ∙ rw (times-upto k n h) (passes (f k))
-  where
-    passes : (t : Bool) → cond t 1 0 ≡ one t
-    passes true = refl
-    passes false = refl
+times-keep-upto f k n h = times-keep f k (upto n) ∙ rw (times-upto k n h) (cond-one (f k))
 
 pub times-keep-past : (f : ℕ → Bool) (k n : ℕ) → n ≤ k → times k (keep f (upto n)) ≡ 0
 times-keep-past f k n h = times-keep f k (upto n) ∙ rw (times-past k n h) (none (f k))
