@@ -6,3 +6,5 @@ pub mod Ports
 pub mod Links
 pub mod Queue
 pub mod Follow
+pub mod Turns
+pub mod Queued
