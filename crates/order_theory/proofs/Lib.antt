@@ -8,3 +8,4 @@ pub mod Queue
 pub mod Follow
 pub mod Turns
 pub mod Queued
+pub mod Order
