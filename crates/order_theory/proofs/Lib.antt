@@ -9,3 +9,4 @@ pub mod Follow
 pub mod Turns
 pub mod Queued
 pub mod Order
+pub mod Cycle

@@ -1,2 +1,3 @@
 pub mod Sound
 pub mod Queued
+pub mod Cycle
