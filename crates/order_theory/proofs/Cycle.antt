@@ -3,11 +3,11 @@
 use Prim.Native.Nat.{ℕ, zero, suc, _≤_, _<_}
 use native.Mathlib.Decide.{decLt}
 use native.Mathlib.Omega.{arith}
-use mathlib.Core.Path.{_≡_, refl, sym, ap, _∙_, subst, subst₂}
-use mathlib.Core.Logic.{_↔_, _⊎_, inl, inr}
+use mathlib.Core.Path.{_≡_, refl, sym, ap, subst, subst₂}
+use mathlib.Core.Logic.{_↔_, inl, inr}
 use mathlib.Core.Bool.{Bool}
 use mathlib.Core.List.{List, [], _∷_}
-use lib.ListN.{length, take}
+use lib.ListN.{length}
 use lib.Seq.{take-all}
 use lib.Dec.{eqb}
 use borrow.Author.Tests.{eqb-true}
@@ -17,12 +17,13 @@ use Rattle.paper.specs.Map.{N, L, linkFrom, linkTo, inLinks}
 use Rattle.paper.specs.Order.{queueAfter, order, placeIn}
 use Rattle.paper.specs.Accepted.{GoesBefore}
 use Rattle.paper.specs.Plain.{Linked, DirectedPath, link, onward}
+use Rattle.order_theory.specs.Lists.{Below}
 use Rattle.order_theory.specs.Sound.{Sound}
-use Rattle.order_theory.specs.Queued.{filled, Queued}
+use Rattle.order_theory.specs.Queued.{filled}
 use Rattle.order_theory.specs.Cycle.{AllOrdered, NoCycle}
 use Rattle.order_theory.proofs.ListsCount.{one-eq, times-upto, times-past}
-use Rattle.order_theory.proofs.ListsCompare.{Below, Missed, missed, below-more, once-more, fits}
-use Rattle.order_theory.proofs.ListsIn.{times-in, in-times}
+use Rattle.order_theory.proofs.ListsCompare.{Missed, missed, below-more, once-more, fits}
+use Rattle.order_theory.proofs.ListsIn.{times-in-back}
 use Rattle.order_theory.proofs.Links.{in-count}
 use Rattle.order_theory.proofs.Queue.{room, filled-most}
 use Rattle.order_theory.proofs.Queued.{turned, queued}
@@ -106,13 +107,13 @@ record Trail (b : List ℕ) (n : ℕ) : Type 0 where
   long : length rest ≡ n
   known : Below (N b) (head ∷ rest)
   once : (v : ℕ) → times v (head ∷ rest) ≤ 1
-  open′ : times head (order b) ≡ 0
+  out : times head (order b) ≡ 0
   ahead : (v : ℕ) → In v rest → DirectedPath b head v
 
 module _ {b : List ℕ} (s : Sound b) (none : NoCycle b) where
   -- one node further back, which is none of those before
   further : {n : ℕ} → Trail b n → Trail b (suc n)
-  further {n} t = go (left-out s (t .head) (head-known (decLt (t .head) (N b))) (t .open′))
+  further {n} t = go (left-out s (t .head) (head-known (decLt (t .head) (N b))) (t .out))
     where
       head-known : Dec (t .head < N b) → t .head < N b
       head-known (yes l) = l
@@ -126,7 +127,7 @@ module _ {b : List ℕ} (s : Sound b) (none : NoCycle b) where
             long = omega (arith, t .long);
             known = below-more (o .node) (N b) (t .head ∷ t .rest) (o .known) (t .known);
             once = once-more (o .node) (t .head ∷ t .rest) (new (decLt 0 (times (o .node) (t .head ∷ t .rest)))) (t .once);
-            open′ = o .out;
+            out = o .out;
             ahead = ahead;
           }
         where
@@ -135,7 +136,7 @@ module _ {b : List ℕ} (s : Sound b) (none : NoCycle b) where
           ahead v (inr i) = onward (o .linked) (t .ahead v i)
 
           new : Dec (0 < times (o .node) (t .head ∷ t .rest)) → times (o .node) (t .head ∷ t .rest) ≡ 0
-          new (yes l) = absurd (none (o .node) (ahead (o .node) (in-times (o .node) (t .head ∷ t .rest) l)))
+          new (yes l) = absurd (none (o .node) (ahead (o .node) (times-in-back (o .node) (t .head ∷ t .rest) l)))
           new (no l) = omega arith
 
   trail : (v : ℕ) → v < N b → times v (order b) ≡ 0 → (n : ℕ) → Trail b n
@@ -146,7 +147,7 @@ module _ {b : List ℕ} (s : Sound b) (none : NoCycle b) where
         long = refl;
         known = below-more v (N b) [] h (λ k l. refl);
         once = once-more v [] refl (λ k. omega arith);
-        open′ = out;
+        out = out;
         ahead = λ w i. absurd i;
       }
   trail v h out (suc n) = further (trail v h out n)
@@ -159,7 +160,7 @@ module _ {b : List ℕ} (s : Sound b) (none : NoCycle b) where
       no-room t = omega (arith, fits (N b) (t .head ∷ t .rest) (t .known) (t .once), t .long)
 
       go : Dec (0 < times v (order b)) → In v (order b)
-      go (yes l) = in-times v (order b) l
+      go (yes l) = times-in-back v (order b) l
       go (no l) = absurd (no-room (trail v h (omega arith) (N b)))
 
 pub all-ordered : {b : List ℕ} → Sound b → AllOrdered b ↔ NoCycle b

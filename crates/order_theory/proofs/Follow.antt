@@ -1,6 +1,6 @@
 -- Following one more link keeps the queue's invariant.
 -- Rests on Queue.
-use Prim.Native.Nat.{ℕ, zero, suc, _+_, _≤_, _<_}
+use Prim.Native.Nat.{ℕ, _+_, _≤_, _<_}
 use native.Mathlib.Decide.{ℕ-discrete, decLt}
 use native.Mathlib.Omega.{arith}
 use mathlib.Core.Path.{_≡_, refl, sym, ap, _∙_, subst}
@@ -13,6 +13,7 @@ use borrow.Author.Tests.{eqb-true}
 use Rattle.lists.specs.Lists.{one, count, times}
 use Rattle.paper.specs.Map.{N, L, linkFrom, linkTo, inLinks}
 use Rattle.paper.specs.Order.{Queue, fillsLast, follow}
+use Rattle.order_theory.specs.Lists.{Below}
 use Rattle.order_theory.specs.Sound.{Sound}
 use Rattle.order_theory.specs.Queued.{filled, Queued}
 use Rattle.order_theory.proofs.ListsCount.{
@@ -23,7 +24,7 @@ use Rattle.order_theory.proofs.ListsCount.{
   count-append,
   times-append-cond,
 }
-use Rattle.order_theory.proofs.ListsCompare.{Below, once-more}
+use Rattle.order_theory.proofs.ListsCompare.{once-more}
 use Rattle.order_theory.proofs.Queue.{filled-below, spare-new}
 
 -- ---- the state after one more link

@@ -1,6 +1,7 @@
 pub mod ListsCount
 pub mod ListsCompare
 pub mod ListsIn
+pub mod ListsExtends
 pub mod ListsFound
 pub mod Ports
 pub mod Links
@@ -10,3 +11,4 @@ pub mod Turns
 pub mod Queued
 pub mod Order
 pub mod Cycle
+pub mod Refusals

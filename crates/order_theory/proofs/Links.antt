@@ -28,6 +28,7 @@ use Rattle.paper.specs.Map.{
   inLinks,
   outLinks,
 }
+use Rattle.order_theory.specs.Lists.{Below}
 use Rattle.order_theory.specs.Sound.{Sound}
 use Rattle.order_theory.proofs.ListsCount.{
   one-eq,
@@ -43,7 +44,7 @@ use Rattle.order_theory.proofs.ListsCount.{
   times-parts,
   times-nowhere,
 }
-use Rattle.order_theory.proofs.ListsCompare.{Below, same-length}
+use Rattle.order_theory.proofs.ListsCompare.{same-length}
 use Rattle.order_theory.proofs.ListsIn.{times-place, place-known, place-new}
 use Rattle.order_theory.proofs.Ports.{ports-end, links-at-output, links-at-input}
 
@@ -132,7 +133,10 @@ module _ {b : List ℕ} (s : Sound b) (v k : ℕ) (h : k < L b) where
 module _ {b : List ℕ} (s : Sound b) (v : ℕ) where
   -- a node has as many incoming links as there are links to it
   pub in-count : length (inLinks b v) ≡ count (λ k. eqb (linkTo b k) v) (upto (L b))
-  in-count = same-length (L b) (inLinks b v) (keep to (upto (L b))) (in-known b v) (λ k h. times-keep-past to k (L b) h) (λ k h. in-times s v k h ∙ sym (times-keep-upto to k (L b) h)) ∙ length-keep to (upto (L b))
+  in-count =
+      same-length (L b) (inLinks b v) (keep to (upto (L b))) (in-known b v) (λ k h. times-keep-past to k (L b) h)
+      (λ k h. in-times s v k h ∙ sym (times-keep-upto to k (L b) h))
+      ∙ length-keep to (upto (L b))
     where
       to : ℕ → Bool
       to k = eqb (linkTo b k) v
@@ -146,4 +150,6 @@ module _ {b : List ℕ} (s : Sound b) (v : ℕ) where
     entry-from = one-eq-back _ v (omega (arith, times-place (outLinks b v) j h, out-times s v _ entry-known))
 
     pub entry-new : times (getD (outLinks b v) j 0) (take j (outLinks b v)) ≡ 0
-    entry-new = place-new (outLinks b v) j h (omega (arith, out-times s v _ entry-known, one-small (eqb (linkFrom b (getD (outLinks b v) j 0)) v)))
+    entry-new =
+        place-new (outLinks b v) j h
+        (omega (arith, out-times s v _ entry-known, one-small (eqb (linkFrom b (getD (outLinks b v) j 0)) v)))

@@ -10,12 +10,14 @@ use lib.ListN.{length}
 use lib.Dec.{eqb, ltb}
 use borrow.Author.Tests.{lt-ltb, le-ltb}
 use Rattle.lists.specs.Lists.{upto, one, count, times}
+use Rattle.order_theory.specs.Lists.{Below}
 use Rattle.order_theory.proofs.ListsCount.{
   one-eq,
   one-ne,
   one-small,
   cond-add,
   cond-mono,
+  cond-none,
   here,
   times-upto,
   length-from,
@@ -24,10 +26,6 @@ use Rattle.order_theory.proofs.ListsCount.{
 -- a test that also asks for a number below n
 abbrev pub low : (ℕ → Bool) → ℕ → ℕ → Bool
 low f n x = f x && ltb x n
-
--- a list of numbers below n, by counts
-abbrev pub Below : ℕ → List ℕ → Type 0
-Below n xs = (k : ℕ) → n ≤ k → times k xs ≡ 0
 
 ltb-step : (x n : ℕ) → (n ≡ x → ⊥) → ltb x (suc n) ≡ ltb x n
 ltb-step x n ne = go (decLt x n)
@@ -51,11 +49,7 @@ low-step f n x = go (f x) (ℕ-discrete n x)
 
 -- one number more
 low-suc : (f : ℕ → Bool) (n : ℕ) (xs : List ℕ) → count (low f (suc n)) xs ≡ count (low f n) xs + cond (f n) (times n xs) 0
-low-suc f n [] = none (f n)
-  where
-    none : (t : Bool) → _≡_ {A = ℕ} 0 (0 + cond t 0 0)
-    none true = refl
-    none false = refl
+low-suc f n [] = omega (arith, cond-none (f n))
 low-suc f n (x ∷ xs) =
     omega (arith, low-suc f n xs, low-step f n x, here f n x, cond-add (f n) (one (eqb n x)) (times n xs))
 

@@ -1,15 +1,15 @@
 -- How many pass, and how often a number stands in a list: through `++`, `keep`, `flatMap` and numbers in a row.
 -- Rests on the kit's tests on numbers.
 use Prim.Native.Nat.{ℕ, zero, suc, _+_, _≤_, _<_}
-use native.Mathlib.Decide.{ℕ-discrete, decLt, decLe}
+use native.Mathlib.Decide.{ℕ-discrete}
 use native.Mathlib.Omega.{arith}
-use mathlib.Core.Path.{_≡_, refl, sym, ap, _∙_, subst}
-use mathlib.Core.Bool.{Bool, true, false, cond, _&&_}
+use mathlib.Core.Path.{_≡_, refl, sym, ap, _∙_}
+use mathlib.Core.Bool.{Bool, true, false, cond}
 use mathlib.Core.List.{List, [], _∷_, _++_, flatMap}
 use lib.ListN.{length, getD, take, drop, take-append-drop}
 use lib.Seq.{take-suc}
-use lib.Dec.{eqb, ltb}
-use borrow.Author.Tests.{eqb-true, eqb-false, eq-eqb, ne-eqb, lt-ltb, le-ltb}
+use lib.Dec.{eqb}
+use borrow.Author.Tests.{eq-eqb, ne-eqb}
 use Rattle.lists.specs.Lists.{from, upto, one, count, keep, times}
 
 -- ---- one test
@@ -31,10 +31,6 @@ one-eq-back a b h = go (ℕ-discrete a b)
     go (yes e) = e
     go (no ne) = absurd (omega (arith, one-ne a b ne))
 
-pub one-true : (t : Bool) → 1 ≤ one t → t ≡ true
-one-true true h = refl
-one-true false h = absurd (omega arith)
-
 pub eqb-sym : (a b : ℕ) → eqb a b ≡ eqb b a
 eqb-sym a b = go (ℕ-discrete a b)
   where
@@ -47,10 +43,6 @@ eqb-sym a b = go (ℕ-discrete a b)
 pub count-append : {A : Type 0} (f : A → Bool) (xs ys : List A) → count f (xs ++ ys) ≡ count f xs + count f ys
 count-append f [] ys = omega arith
 count-append f (x ∷ xs) ys = omega (arith, count-append f xs ys)
-
-pub count-le-length : {A : Type 0} (f : A → Bool) (xs : List A) → count f xs ≤ length xs
-count-le-length f [] = omega arith
-count-le-length f (x ∷ xs) = omega (arith, count-le-length f xs, one-small (f x))
 
 pub length-keep : {A : Type 0} (f : A → Bool) (xs : List A) → length (keep f xs) ≡ count f xs
 length-keep f [] = refl
@@ -73,6 +65,10 @@ pub cond-small : (t : Bool) (n : ℕ) → cond t n 0 ≤ n
 cond-small true n = omega arith
 cond-small false n = omega arith
 
+pub cond-none : (t : Bool) → _≡_ {A = ℕ} (cond t 0 0) 0
+cond-none true = refl
+cond-none false = refl
+
 pub cond-one : (t : Bool) → cond t 1 0 ≡ one t
 cond-one true = refl
 cond-one false = refl
@@ -81,22 +77,12 @@ cond-one false = refl
 pub here : (f : ℕ → Bool) (n x : ℕ) → cond (f x) (one (eqb n x)) 0 ≡ cond (f n) (one (eqb n x)) 0
 here f n x = go (ℕ-discrete n x)
   where
-    none : (s t : Bool) → _≡_ {A = ℕ} (cond s 0 0) (cond t 0 0)
-    none true true = refl
-    none true false = refl
-    none false true = refl
-    none false false = refl
-
     go : Dec (n ≡ x) → cond (f x) (one (eqb n x)) 0 ≡ cond (f n) (one (eqb n x)) 0
     go (yes e) = ap (λ (y : ℕ). cond (f y) (one (eqb n x)) 0) (sym e)
-    go (no ne) = rw (ne-eqb n x ne) (none (f x) (f n))
+    go (no ne) = rw (ne-eqb n x ne) (cond-none (f x) ∙ sym (cond-none (f n)))
 
 pub times-keep : (f : ℕ → Bool) (n : ℕ) (xs : List ℕ) → times n (keep f xs) ≡ cond (f n) (times n xs) 0
-times-keep f n [] = none (f n)
-  where
-    none : (t : Bool) → _≡_ {A = ℕ} 0 (cond t 0 0)
-    none true = refl
-    none false = refl
+times-keep f n [] = sym (cond-none (f n))
 times-keep f n (x ∷ xs) =
     omega (arith, step (f x) (keep f xs), times-keep f n xs, cond-add (f n) (one (eqb n x)) (times n xs), here f n x)
   where
@@ -145,11 +131,7 @@ pub times-keep-upto : (f : ℕ → Bool) (k n : ℕ) → k < n → times k (keep
 times-keep-upto f k n h = times-keep f k (upto n) ∙ rw (times-upto k n h) (cond-one (f k))
 
 pub times-keep-past : (f : ℕ → Bool) (k n : ℕ) → n ≤ k → times k (keep f (upto n)) ≡ 0
-times-keep-past f k n h = times-keep f k (upto n) ∙ rw (times-past k n h) (none (f k))
-  where
-    none : (t : Bool) → _≡_ {A = ℕ} (cond t 0 0) 0
-    none true = refl
-    none false = refl
+times-keep-past f k n h = times-keep f k (upto n) ∙ rw (times-past k n h) (cond-none (f k))
 
 -- tests that agree below n keep the same
 pub keep-upto : (f g : ℕ → Bool) (n : ℕ) → ((k : ℕ) → k < n → f k ≡ g k) → keep f (upto n) ≡ keep g (upto n)

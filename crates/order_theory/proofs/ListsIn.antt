@@ -1,25 +1,25 @@
 -- Membership, places and `Distinct`, by how often a number stands in a list.
 -- Rests on ListsCount and ListsCompare.
-use Prim.Native.Nat.{ℕ, zero, suc, _+_, _≤_, _<_}
+use Prim.Native.Nat.{ℕ, zero, suc, _≤_, _<_}
 use native.Mathlib.Decide.{ℕ-discrete, decLt}
 use native.Mathlib.Omega.{arith}
-use mathlib.Core.Path.{_≡_, refl, sym, ap, _∙_}
+use mathlib.Core.Path.{_≡_, refl, sym}
 use mathlib.Core.Logic.{_⊎_, inl, inr}
 use mathlib.Core.List.{List, [], _∷_}
 use lib.ListN.{length, getD, take}
 use lib.Dec.{eqb}
-use Rattle.lists.specs.Lists.{one, times, In, Distinct}
+use Rattle.lists.specs.Lists.{times, In, Distinct}
+use Rattle.order_theory.specs.Lists.{Below}
 use Rattle.order_theory.proofs.ListsCount.{one-eq, one-ne, times-take, count-take-suc}
-use Rattle.order_theory.proofs.ListsCompare.{Below}
 
 pub times-in : (x : ℕ) (xs : List ℕ) → In x xs → 1 ≤ times x xs
 times-in x [] h = absurd h
 times-in x (y ∷ ys) (inl e) = omega (arith, one-eq x y e)
 times-in x (y ∷ ys) (inr h) = omega (arith, times-in x ys h)
 
-pub in-times : (x : ℕ) (xs : List ℕ) → 1 ≤ times x xs → In x xs
-in-times x [] h = absurd (omega arith)
-in-times x (y ∷ ys) h = go (ℕ-discrete x y) (in-times x ys)
+pub times-in-back : (x : ℕ) (xs : List ℕ) → 1 ≤ times x xs → In x xs
+times-in-back x [] h = absurd (omega arith)
+times-in-back x (y ∷ ys) h = go (ℕ-discrete x y) (times-in-back x ys)
   where
     go : Dec (x ≡ y) → (1 ≤ times x ys → In x ys) → (x ≡ y) ⊎ In x ys
     go (yes e) ih = inl e

@@ -2,7 +2,7 @@
 -- Rests on Queued (the invariant) and ListsFound (what `first` finds).
 use Prim.Native.Nat.{ℕ, zero, suc, _+_, _-_, _≤_, _<_}
 use native.Mathlib.Omega.{arith}
-use mathlib.Core.Path.{_≡_, refl, sym, ap, _∙_, subst, subst₂}
+use mathlib.Core.Path.{_≡_, sym, ap, _∙_, subst, subst₂}
 use mathlib.Core.Bool.{Bool}
 use mathlib.Core.List.{List}
 use lib.ListN.{length, getD, take}
@@ -15,9 +15,8 @@ use Rattle.paper.specs.Map.{N, L, linkFrom, linkTo}
 use Rattle.paper.specs.Order.{Queue, queueAfter, order, placeIn}
 use Rattle.paper.specs.Accepted.{GoesBefore}
 use Rattle.order_theory.specs.Sound.{Sound}
-use Rattle.order_theory.specs.Queued.{Queued}
 use Rattle.order_theory.proofs.ListsIn.{times-in, distinct-times, PlaceBelow, place-times}
-use Rattle.order_theory.proofs.ListsFound.{FirstOf, first-at, FoundBy, first-found}
+use Rattle.order_theory.proofs.ListsFound.{first-at, first-found}
 use Rattle.order_theory.proofs.Queue.{joined-once, joined-known, room}
 use Rattle.order_theory.proofs.Turns.{after-over}
 use Rattle.order_theory.proofs.Queued.{queued}
@@ -60,6 +59,10 @@ module _ (b : List ℕ) (t : ℕ) (over : length (queueAfter b t .joined) ≤ t)
 -- N turns are enough
 pub enough : {b : List ℕ} → Sound b → (n : ℕ) → N b ≤ n → queueAfter b n ≡ queueAfter b (N b)
 enough {b} s n h = settled b (N b) (room s (queued s (N b))) n h
+
+-- .. so where as many turns were made as nodes have joined, the order is what has joined
+pub order-complete : {b : List ℕ} → Sound b → (t : ℕ) → length (queueAfter b t .joined) ≡ t → order b ≡ queueAfter b t .joined
+order-complete {b} s t done = order-settled b t (omega arith) (omega (arith, room s (queued s t)))
 
 -- ---- places
 

@@ -1,18 +1,18 @@
 -- The queue's invariant: what follows from it, and that it holds at the start.
 -- Rests on Links and the laws on lists compared by counts.
-use Prim.Native.Nat.{ℕ, zero, suc, _+_, _≤_, _<_}
-use native.Mathlib.Decide.{ℕ-discrete, decLt}
+use Prim.Native.Nat.{ℕ, _≤_, _<_}
+use native.Mathlib.Decide.{decLt}
 use native.Mathlib.Omega.{arith}
-use mathlib.Core.Path.{_≡_, refl, sym, ap, _∙_, subst}
+use mathlib.Core.Path.{_≡_, refl, ap, _∙_}
 use mathlib.Core.Logic.{_↔_}
-use mathlib.Core.Bool.{Bool, true, false, cond}
-use mathlib.Core.List.{List, [], _∷_, _++_}
-use lib.ListN.{length, getD, take}
+use mathlib.Core.Bool.{Bool}
+use mathlib.Core.List.{List, [], _∷_}
+use lib.ListN.{length, getD}
 use lib.Dec.{eqb}
-use borrow.Author.Tests.{eqb-true, eqb-false, eq-eqb, ne-eqb}
-use Rattle.lists.specs.Lists.{upto, one, count, keep, times, In, Distinct}
-use Rattle.paper.specs.Map.{N, L, linkFrom, linkTo, inLinks, outLinks}
-use Rattle.paper.specs.Order.{Queue, started, fillsLast, follow}
+use Rattle.lists.specs.Lists.{upto, one, keep, times, In}
+use Rattle.paper.specs.Map.{N, L, linkTo, inLinks}
+use Rattle.paper.specs.Order.{Queue, started}
+use Rattle.order_theory.specs.Lists.{Below}
 use Rattle.order_theory.specs.Sound.{Sound}
 use Rattle.order_theory.specs.Queued.{filled, Queued}
 use Rattle.order_theory.proofs.ListsCount.{
@@ -21,13 +21,12 @@ use Rattle.order_theory.proofs.ListsCount.{
   one-small,
   one-eq-back,
   eqb-sym,
-  count-append,
   times-keep-upto,
   times-keep-past,
   times-upto,
 }
-use Rattle.order_theory.proofs.ListsCompare.{Below, fewer, fits, below-more, once-more}
-use Rattle.order_theory.proofs.ListsIn.{times-in, in-times, times-place}
+use Rattle.order_theory.proofs.ListsCompare.{fewer, fits, below-more, once-more}
+use Rattle.order_theory.proofs.ListsIn.{times-in, times-place}
 use Rattle.order_theory.proofs.Links.{in-count}
 
 -- ---- links followed at most once

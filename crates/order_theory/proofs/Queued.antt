@@ -4,24 +4,22 @@ use Prim.Native.Nat.{ℕ, zero, suc, _+_, _≤_, _<_}
 use native.Mathlib.Decide.{decLt}
 use native.Mathlib.Omega.{arith}
 use mathlib.Core.Path.{_≡_, refl, sym, ap, _∙_, subst}
-use mathlib.Core.List.{List, [], _∷_, _++_}
+use mathlib.Core.List.{List}
 use lib.ListN.{length, getD, take}
 use lib.Seq.{take-all, take-length}
 use lib.Dec.{eqb}
-use Rattle.lists.specs.Lists.{one, times}
+use Rattle.lists.specs.Lists.{times}
 use Rattle.paper.specs.Map.{N, L, linkFrom, linkTo, inLinks, outLinks}
-use Rattle.paper.specs.Order.{Queue, started, follow, queueAfter}
+use Rattle.paper.specs.Order.{Queue, started, queueAfter}
 use Rattle.order_theory.specs.Sound.{Sound}
-use Rattle.order_theory.specs.Queued.{filled, Queued, frontAt, midTurn}
-use Rattle.order_theory.proofs.ListsCount.{count-append, count-take-suc, one-eq, one-ne, eqb-sym}
+use Rattle.order_theory.specs.Queued.{filled, Queued, frontAt, midTurn, Turned}
+use Rattle.order_theory.proofs.ListsCount.{count-append, count-take-suc}
 use Rattle.order_theory.proofs.ListsIn.{times-place, place-new}
+use Rattle.order_theory.proofs.ListsExtends.{extends-times, extends-take}
 use Rattle.order_theory.proofs.Links.{out-times, entry-known, entry-from, entry-new}
 use Rattle.order_theory.proofs.Queue.{joined-once, spare, spare-room, started-queued}
 use Rattle.order_theory.proofs.Follow.{follow-queued}
 use Rattle.order_theory.proofs.Turns.{
-  extends-times,
-  extends-take,
-  extends-length,
   mid-start,
   mid-next,
   mid-end,
@@ -29,11 +27,6 @@ use Rattle.order_theory.proofs.Turns.{
   mid-joined,
   after-over,
 }
-
--- After turn t a link was followed exactly if its source is one of the first t who joined.
-pub record Turned (b : List ℕ) (t : ℕ) : Type 0 where
-  pub queued : Queued b (queueAfter b t)
-  pub taken : (k : ℕ) → k < L b → times k (queueAfter b t .followed) ≡ times (linkFrom b k) (take t (queueAfter b t .joined))
 
 -- ---- within a turn that has a front
 

@@ -1,18 +1,15 @@
 -- The queue turn by turn and link by link: how one state comes from the one before, and that it only grows.
 -- Rests on the definitions of the order (paper.Order).
-use Prim.Native.Nat.{ℕ, zero, suc, _+_, _≤_, _<_}
-use native.Mathlib.Omega.{arith}
+use Prim.Native.Nat.{ℕ, suc, _≤_, _<_}
 use mathlib.Core.Path.{_≡_, refl, sym, ap, _∙_}
-use mathlib.Core.Bool.{Bool, cond}
+use mathlib.Core.Bool.{cond}
 use mathlib.Core.List.{List, [], _∷_, _++_, flatMap, append-nil, append-assoc}
-use lib.ListN.{length, getD, take, drop, length-append, drop-of-length-le}
-use lib.Seq.{take-suc, drop-cons, take-length, take-append-le}
-use lib.Dec.{eqb}
-use Rattle.lists.specs.Lists.{one, count, times}
+use lib.ListN.{length, getD, take, drop, drop-of-length-le}
+use lib.Seq.{take-suc, drop-cons, take-length}
 use Rattle.paper.specs.Map.{linkTo, outLinks}
 use Rattle.paper.specs.Order.{Queue, fillsLast, follow, followAll, turn, queueAfter}
+use Rattle.order_theory.specs.Lists.{Extends}
 use Rattle.order_theory.specs.Queued.{frontAt, midTurn}
-use Rattle.order_theory.proofs.ListsCount.{count-append}
 
 -- ---- links in a row
 
@@ -26,11 +23,6 @@ unfolding followAll follow
 followAll-followed b [] q = sym (append-nil (q .followed))
 followAll-followed b (k ∷ ks) q = followAll-followed b ks (follow b k q) ∙ append-assoc (q .followed) (k ∷ []) ks
 
--- a list that begins with another
-pub record Extends (xs ys : List ℕ) : Type 0 where
-  pub rest : List ℕ
-  pub whole : ys ≡ xs ++ rest
-
 -- nobody leaves the list of those who have joined
 pub followAll-joined : (b ks : List ℕ) (q : Queue) → Extends (q .joined) (followAll b ks q .joined)
 unfolding followAll follow
@@ -39,16 +31,6 @@ followAll-joined b (k ∷ ks) q =
     let e = followAll-joined b ks (follow b k q) in
     let joining = cond (fillsLast b (q .followed) k) (linkTo b k ∷ []) [] in
     record { rest = joining ++ e .rest; whole = e .whole ∙ append-assoc (q .joined) joining (e .rest) }
-
-module _ {xs ys : List ℕ} (e : Extends xs ys) where
-  pub extends-times : (x : ℕ) → times x xs ≤ times x ys
-  extends-times x = omega (arith, ap (times x) (e .whole), count-append (eqb x) xs (e .rest))
-
-  pub extends-take : (n : ℕ) → n ≤ length xs → take n ys ≡ take n xs
-  extends-take n h = ap (take n) (e .whole) ∙ take-append-le n xs (e .rest) h
-
-  pub extends-length : length xs ≤ length ys
-  extends-length = omega (arith, ap length (e .whole), length-append xs (e .rest))
 
 -- ---- one turn
 
@@ -92,6 +74,10 @@ module _ (b : List ℕ) (t : ℕ) where
   pub mid-joined : (j : ℕ) → Extends (queueAfter b t .joined) (midTurn b t j .joined)
   unfolding midTurn
   mid-joined j = followAll-joined b (take j (outLinks b (frontAt b t))) (queueAfter b t)
+
+  pub after-grows : Extends (queueAfter b t .joined) (queueAfter b (suc t) .joined)
+  unfolding queueAfter turn
+  after-grows = followAll-joined b (flatMap (outLinks b) (take 1 (drop t (queueAfter b t .joined)))) (queueAfter b t)
 
   -- once all who joined were taken, nothing changes
   pub after-over : length (queueAfter b t .joined) ≤ t → queueAfter b (suc t) ≡ queueAfter b t
