@@ -97,10 +97,11 @@ module _ {b : List ℕ} (s : Sound b) {q : Queue} (i : Queued b q) (k : ℕ) (h 
       go : Dec (0 < times j (follow b k q .followed)) → 1 ≤ times j (follow b k q .followed)
       go (yes m) = m
       go (no m) =
-          absurd
-          (omega
-          (arith, filled-below s (follow b k q .followed) followed-known′ followed-once′ j l (omega arith), eqb-true (filled b (follow b k q .followed) (linkTo b k)) (length (inLinks b (linkTo b k))) last, ap (filled b (follow b k q .followed)) e, ap (λ (w : ℕ). length (inLinks b w)) e))
+          let few = filled-below s (follow b k q .followed) followed-known′ followed-once′ j l (omega arith) in
+          let full = eqb-true (filled b (follow b k q .followed) (linkTo b k)) (length (inLinks b (linkTo b k))) last in
+          absurd (omega (arith, ap (filled b (follow b k q .followed)) e, ap (λ (w : ℕ). length (inLinks b w)) e))
 
+  -- the last case of `behind`: whoever joins now stands behind all who joined before
   behind′ : (t : Bool) → fillsLast b (q .followed) k ≡ t → (j : ℕ) → j < L b → (n : ℕ)
       → n < length (q .joined ++ cond t (linkTo b k ∷ []) []) → getD (q .joined ++ cond t (linkTo b k ∷ []) []) n 0 ≡ linkTo b j
       → Dec (n < length (q .joined)) → 1 ≤ times (linkFrom b j) (take n (q .joined ++ cond t (linkTo b k ∷ []) []))

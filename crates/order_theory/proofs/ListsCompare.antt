@@ -121,8 +121,9 @@ count-every (x ∷ xs) = omega (arith, count-every xs)
 -- who stands everywhere as often is as many
 pub same-length : (n : ℕ) (xs ys : List ℕ) → Below n xs → Below n ys → ((k : ℕ) → k < n → times k xs ≡ times k ys) → length xs ≡ length ys
 same-length n xs ys bx by h =
-    omega
-    (arith, count-every xs, count-every ys, fewer (λ (x : ℕ). true) n xs ys bx (λ k l. omega (arith, h k l)), fewer (λ (x : ℕ). true) n ys xs by (λ k l. omega (arith, h k l)))
+    let there = fewer (λ (x : ℕ). true) n xs ys bx (λ k l. omega (arith, h k l)) in
+    let back = fewer (λ (x : ℕ). true) n ys xs by (λ k l. omega (arith, h k l)) in
+    omega (arith, count-every xs, count-every ys)
 
 -- ---- lists without repeats
 

@@ -148,8 +148,8 @@ pub times-parts : (f : ℕ → List ℕ) (n y p m : ℕ) → ((x : ℕ) → p �
 unfolding flatMap
 times-parts f n y p zero h = refl
 times-parts f n y p (suc m) h =
-    omega
-    (arith, count-append (eqb n) (f p) (flatMap f (from (suc p) m)), h p (omega arith) (omega arith), times-parts f n y (suc p) m (λ x l u. h x (omega arith) (omega arith)))
+    let later = times-parts f n y (suc p) m (λ x l u. h x (omega arith) (omega arith)) in
+    omega (arith, count-append (eqb n) (f p) (flatMap f (from (suc p) m)), h p (omega arith) (omega arith))
 
 -- what stands in no part stands nowhere
 pub times-nowhere : (f : ℕ → List ℕ) (n : ℕ) → ((x : ℕ) → times n (f x) ≡ 0) → (xs : List ℕ) → times n (flatMap f xs) ≡ 0

@@ -5,14 +5,14 @@ use native.Mathlib.Decide.{decLt}
 use native.Mathlib.Omega.{arith}
 use mathlib.Core.Path.{_≡_, refl, sym, ap, _∙_, subst}
 use mathlib.Core.List.{List}
-use lib.ListN.{length, getD, take}
-use lib.Seq.{take-all, take-length}
+use lib.ListN.{length, take}
+use lib.Seq.{take-all}
 use lib.Dec.{eqb}
 use Rattle.lists.specs.Lists.{times}
 use Rattle.paper.specs.Map.{N, L, linkFrom, linkTo, inLinks, outLinks}
 use Rattle.paper.specs.Order.{Queue, started, queueAfter}
 use Rattle.order_theory.specs.Sound.{Sound}
-use Rattle.order_theory.specs.Queued.{filled, Queued, frontAt, midTurn, Turned}
+use Rattle.order_theory.specs.Queued.{filled, Queued, frontAt, nextLink, midTurn, Turned}
 use Rattle.order_theory.proofs.ListsCount.{count-append, count-take-suc}
 use Rattle.order_theory.proofs.ListsIn.{times-place, place-new}
 use Rattle.order_theory.proofs.ListsExtends.{extends-times, extends-take}
@@ -49,13 +49,13 @@ module _ {b : List ℕ} (s : Sound b) (t : ℕ) (turned : Turned b t) (h : t < l
 
   module _ (j : ℕ) (l : j < length (outLinks b (frontAt b t))) where
     -- its next link was not followed
-    next-new : times (getD (outLinks b (frontAt b t)) j 0) (midTurn b t j .followed) ≡ 0
+    next-new : times (nextLink b t j) (midTurn b t j .followed) ≡ 0
     next-new =
         let from = ap (λ (v : ℕ). times v (take t (queueAfter b t .joined))) (entry-from s (frontAt b t) j l) in
         omega
-        (arith, mid-times j (getD (outLinks b (frontAt b t)) j 0) (entry-known s (frontAt b t) j l), front-new, entry-new s (frontAt b t) j l)
+        (arith, mid-times j (nextLink b t j) (entry-known s (frontAt b t) j l), front-new, entry-new s (frontAt b t) j l)
 
-    next-source : 1 ≤ times (linkFrom b (getD (outLinks b (frontAt b t)) j 0)) (midTurn b t j .joined)
+    next-source : 1 ≤ times (linkFrom b (nextLink b t j)) (midTurn b t j .joined)
     next-source =
         rw (entry-from s (frontAt b t) j l) (omega (arith, front-joined, extends-times (mid-joined b t j) (frontAt b t)))
 
@@ -63,20 +63,17 @@ module _ {b : List ℕ} (s : Sound b) (t : ℕ) (turned : Turned b t) (h : t < l
   mid-queued zero l = subst (Queued b) (sym (mid-start b t)) (turned .queued)
   mid-queued (suc j) l =
       subst (Queued b) (sym (mid-next b t j l))
-      (follow-queued s (mid-queued j (omega arith)) (getD (outLinks b (frontAt b t)) j 0) (entry-known s (frontAt b t) j l) (next-new j l) (next-source j l))
+      (follow-queued s (mid-queued j (omega arith)) (nextLink b t j) (entry-known s (frontAt b t) j l) (next-new j l) (next-source j l))
 
-  mid-taken : (k : ℕ) → k < L b
-      → times k (midTurn b t (length (outLinks b (frontAt b t))) .followed) ≡ times (linkFrom b k) (take (suc t) (midTurn b t (length (outLinks b (frontAt b t))) .joined))
+  -- at its end, all links of the first t + 1 nodes
+  mid-taken : (n : ℕ) → length (outLinks b (frontAt b t)) ≡ n → (k : ℕ) → k < L b
+      → times k (midTurn b t n .followed) ≡ times (linkFrom b k) (take (suc t) (midTurn b t n .joined))
   unfolding frontAt
-  mid-taken k l =
-      omega
-      (arith, mid-times n k l, ap (times k) (take-length links), out-times s (frontAt b t) k l, ap (times (linkFrom b k)) (extends-take (mid-joined b t n) (suc t) h), count-take-suc (eqb (linkFrom b k)) (queueAfter b t .joined) t h)
-    where
-      links : List ℕ
-      links = outLinks b (frontAt b t)
-
-      n : ℕ
-      n = length links
+  mid-taken n e k l =
+      let all = ap (times k) (take-all n (outLinks b (frontAt b t)) (omega arith)) in
+      let same = ap (times (linkFrom b k)) (extends-take (mid-joined b t n) (suc t) h) in
+      let more = count-take-suc (eqb (linkFrom b k)) (queueAfter b t .joined) t h in
+      omega (arith, mid-times n k l, out-times s (frontAt b t) k l)
 
   turned-next : Turned b (suc t)
   turned-next =
@@ -84,7 +81,7 @@ module _ {b : List ℕ} (s : Sound b) (t : ℕ) (turned : Turned b t) (h : t < l
         queued = subst (Queued b) (mid-end b t h) (mid-queued _ (omega arith));
         taken =
             subst (λ (q : Queue). (k : ℕ) → k < L b → times k (q .followed) ≡ times (linkFrom b k) (take (suc t) (q .joined)))
-            (mid-end b t h) mid-taken;
+            (mid-end b t h) (mid-taken _ refl);
       }
 
 -- ---- every turn
@@ -126,12 +123,12 @@ module _ {b : List ℕ} (s : Sound b) (t : ℕ) where
 
     -- the next link within a turn: not followed, its target with an incoming link to spare, and room for it in the queue
     module _ (j : ℕ) (l : j < length (outLinks b (frontAt b t))) where
-      pub mid-new : times (getD (outLinks b (frontAt b t)) j 0) (midTurn b t j .followed) ≡ 0
+      pub mid-new : times (nextLink b t j) (midTurn b t j .followed) ≡ 0
       mid-new = next-new s t (turned s t) h j l
 
-      pub mid-spare : filled b (midTurn b t j .followed) (linkTo b (getD (outLinks b (frontAt b t)) j 0)) < length (inLinks b (linkTo b (getD (outLinks b (frontAt b t)) j 0)))
-      mid-spare = spare s (queued-mid j (omega arith)) (getD (outLinks b (frontAt b t)) j 0) (entry-known s (frontAt b t) j l) mid-new
+      pub mid-spare : filled b (midTurn b t j .followed) (linkTo b (nextLink b t j)) < length (inLinks b (linkTo b (nextLink b t j)))
+      mid-spare = spare s (queued-mid j (omega arith)) (nextLink b t j) (entry-known s (frontAt b t) j l) mid-new
 
       pub mid-room : length (midTurn b t j .joined) < N b
       mid-room =
-          spare-room s (queued-mid j (omega arith)) (getD (outLinks b (frontAt b t)) j 0) (entry-known s (frontAt b t) j l) mid-new
+          spare-room s (queued-mid j (omega arith)) (nextLink b t j) (entry-known s (frontAt b t) j l) mid-new

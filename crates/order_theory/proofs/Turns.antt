@@ -9,7 +9,7 @@ use lib.Seq.{take-suc, drop-cons, take-length}
 use Rattle.paper.specs.Map.{linkTo, outLinks}
 use Rattle.paper.specs.Order.{Queue, fillsLast, follow, followAll, turn, queueAfter}
 use Rattle.order_theory.specs.Lists.{Extends}
-use Rattle.order_theory.specs.Queued.{frontAt, midTurn}
+use Rattle.order_theory.specs.Queued.{frontAt, nextLink, midTurn}
 
 -- ---- links in a row
 
@@ -55,11 +55,11 @@ module _ (b : List ℕ) (t : ℕ) where
   mid-start = refl
 
   pub mid-next : (j : ℕ) → j < length (outLinks b (frontAt b t))
-      → midTurn b t (suc j) ≡ follow b (getD (outLinks b (frontAt b t)) j 0) (midTurn b t j)
+      → midTurn b t (suc j) ≡ follow b (nextLink b t j) (midTurn b t j)
   unfolding midTurn
   mid-next j h =
       ap (λ (ks : List ℕ). followAll b ks (queueAfter b t)) (take-suc (outLinks b (frontAt b t)) j 0 h)
-      ∙ followAll-snoc b (take j (outLinks b (frontAt b t))) (getD (outLinks b (frontAt b t)) j 0) (queueAfter b t)
+      ∙ followAll-snoc b (take j (outLinks b (frontAt b t))) (nextLink b t j) (queueAfter b t)
 
   pub mid-end : t < length (queueAfter b t .joined) → midTurn b t (length (outLinks b (frontAt b t))) ≡ queueAfter b (suc t)
   unfolding midTurn queueAfter frontAt

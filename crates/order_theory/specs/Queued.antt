@@ -31,6 +31,10 @@ pub record Queued (b : List ℕ) (q : Queue) : Type 0 where
 unfoldable pub frontAt : List ℕ → ℕ → ℕ
 frontAt b t = getD (queueAfter b t .joined) t 0
 
+-- link j of that node's outgoing links
+abbrev pub nextLink : List ℕ → ℕ → ℕ → ℕ
+nextLink b t j = getD (outLinks b (frontAt b t)) j 0
+
 -- the state within turn t, after j links of its front
 unfoldable pub midTurn : List ℕ → ℕ → ℕ → Queue
 midTurn b t j = followAll b (take j (outLinks b (frontAt b t))) (queueAfter b t)
