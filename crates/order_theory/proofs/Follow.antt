@@ -11,19 +11,13 @@ use lib.Seq.{take-append-le, take-at, getD-at}
 use lib.Dec.{eqb}
 use borrow.Author.Tests.{eqb-true}
 use Rattle.lists.specs.Lists.{one, count, times}
+use Rattle.lists.proofs.Upto.{count-append}
 use Rattle.paper.specs.Map.{N, L, linkFrom, linkTo, inLinks}
 use Rattle.paper.specs.Order.{Queue, fillsLast, follow}
 use Rattle.order_theory.specs.Lists.{Below}
 use Rattle.order_theory.specs.Sound.{Sound}
 use Rattle.order_theory.specs.Queued.{filled, Queued}
-use Rattle.order_theory.proofs.ListsCount.{
-  one-eq,
-  one-ne,
-  cond-small,
-  cond-one,
-  count-append,
-  times-append-cond,
-}
+use Rattle.order_theory.proofs.ListsCount.{one-eq, one-ne, cond-small, cond-one, times-append-cond}
 use Rattle.order_theory.proofs.ListsCompare.{once-more}
 use Rattle.order_theory.proofs.Queue.{filled-below, spare-new}
 
@@ -101,7 +95,7 @@ module _ {b : List ℕ} (s : Sound b) {q : Queue} (i : Queued b q) (k : ℕ) (h 
           let full = eqb-true (filled b (follow b k q .followed) (linkTo b k)) (length (inLinks b (linkTo b k))) last in
           absurd (omega (arith, ap (filled b (follow b k q .followed)) e, ap (λ (w : ℕ). length (inLinks b w)) e))
 
-  -- the last case of `behind`: whoever joins now stands behind all who joined before
+  -- whoever joins now stands behind all who joined before
   behind′ : (t : Bool) → fillsLast b (q .followed) k ≡ t → (j : ℕ) → j < L b → (n : ℕ)
       → n < length (q .joined ++ cond t (linkTo b k ∷ []) []) → getD (q .joined ++ cond t (linkTo b k ∷ []) []) n 0 ≡ linkTo b j
       → Dec (n < length (q .joined)) → 1 ≤ times (linkFrom b j) (take n (q .joined ++ cond t (linkTo b k ∷ []) []))

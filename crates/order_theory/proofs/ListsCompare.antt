@@ -10,18 +10,9 @@ use lib.ListN.{length}
 use lib.Dec.{eqb, ltb}
 use borrow.Author.Tests.{lt-ltb, le-ltb}
 use Rattle.lists.specs.Lists.{upto, one, count, times}
+use Rattle.lists.proofs.Upto.{length-from}
 use Rattle.order_theory.specs.Lists.{Below}
-use Rattle.order_theory.proofs.ListsCount.{
-  one-eq,
-  one-ne,
-  one-small,
-  cond-add,
-  cond-mono,
-  cond-none,
-  here,
-  times-upto,
-  length-from,
-}
+use Rattle.order_theory.proofs.ListsCount.{one-eq, one-ne, one-small, cond-add, cond-mono, cond-none, here, times-upto}
 
 -- a test that also asks for a number below n
 abbrev pub low : (ℕ → Bool) → ℕ → ℕ → Bool

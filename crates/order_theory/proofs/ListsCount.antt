@@ -1,5 +1,5 @@
 -- How many pass, and how often a number stands in a list: through `++`, `keep`, `flatMap` and numbers in a row.
--- Rests on the kit's tests on numbers.
+-- Rests on lists.Upto and the kit's tests on numbers.
 use Prim.Native.Nat.{ℕ, zero, suc, _+_, _≤_, _<_}
 use native.Mathlib.Decide.{ℕ-discrete}
 use native.Mathlib.Omega.{arith}
@@ -11,6 +11,7 @@ use lib.Seq.{take-suc}
 use lib.Dec.{eqb}
 use borrow.Author.Tests.{eq-eqb, ne-eqb}
 use Rattle.lists.specs.Lists.{from, upto, one, count, keep, times}
+use Rattle.lists.proofs.Upto.{count-append}
 
 -- ---- one test
 
@@ -39,10 +40,6 @@ eqb-sym a b = go (ℕ-discrete a b)
     go (no ne) = ne-eqb a b ne ∙ sym (ne-eqb b a (λ e. ne (sym e)))
 
 -- ---- append, keep and flatMap
-
-pub count-append : {A : Type 0} (f : A → Bool) (xs ys : List A) → count f (xs ++ ys) ≡ count f xs + count f ys
-count-append f [] ys = omega arith
-count-append f (x ∷ xs) ys = omega (arith, count-append f xs ys)
 
 pub length-keep : {A : Type 0} (f : A → Bool) (xs : List A) → length (keep f xs) ≡ count f xs
 length-keep f [] = refl
@@ -122,10 +119,6 @@ times-upto x n h = times-among x 0 n (omega arith) (omega arith)
 
 pub times-past : (x n : ℕ) → n ≤ x → times x (upto n) ≡ 0
 times-past x n h = times-after x 0 n (omega arith)
-
-pub length-from : (n k : ℕ) → length (from n k) ≡ k
-length-from n zero = refl
-length-from n (suc k) = ap suc (length-from (suc n) k)
 
 pub times-keep-upto : (f : ℕ → Bool) (k n : ℕ) → k < n → times k (keep f (upto n)) ≡ one (f k)
 times-keep-upto f k n h = times-keep f k (upto n) ∙ rw (times-upto k n h) (cond-one (f k))

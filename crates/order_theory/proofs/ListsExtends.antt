@@ -1,5 +1,5 @@
 -- A list that begins with another has its entries where the other has them.
--- Rests on ListsCount.
+-- Rests on lists.Upto.
 use Prim.Native.Nat.{ℕ, _≤_}
 use native.Mathlib.Omega.{arith}
 use mathlib.Core.Path.{_≡_, ap, _∙_}
@@ -8,8 +8,8 @@ use lib.ListN.{length, take, length-append}
 use lib.Seq.{take-append-le}
 use lib.Dec.{eqb}
 use Rattle.lists.specs.Lists.{times}
+use Rattle.lists.proofs.Upto.{count-append}
 use Rattle.order_theory.specs.Lists.{Extends}
-use Rattle.order_theory.proofs.ListsCount.{count-append}
 
 module _ {xs ys : List ℕ} (e : Extends xs ys) where
   pub extends-times : (x : ℕ) → times x xs ≤ times x ys

@@ -9,11 +9,12 @@ use lib.ListN.{length, take}
 use lib.Seq.{take-all}
 use lib.Dec.{eqb}
 use Rattle.lists.specs.Lists.{times}
+use Rattle.lists.proofs.Upto.{count-append}
 use Rattle.paper.specs.Map.{N, L, linkFrom, linkTo, inLinks, outLinks}
 use Rattle.paper.specs.Order.{Queue, started, queueAfter}
 use Rattle.order_theory.specs.Sound.{Sound}
 use Rattle.order_theory.specs.Queued.{filled, Queued, frontAt, nextLink, midTurn, Turned}
-use Rattle.order_theory.proofs.ListsCount.{count-append, count-take-suc}
+use Rattle.order_theory.proofs.ListsCount.{count-take-suc}
 use Rattle.order_theory.proofs.ListsIn.{times-place, place-new}
 use Rattle.order_theory.proofs.ListsExtends.{extends-times, extends-take}
 use Rattle.order_theory.proofs.Links.{out-times, entry-known, entry-from, entry-new}

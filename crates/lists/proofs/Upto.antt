@@ -1,0 +1,151 @@
+-- Laws of the numbers in a row and of a table of a function over them, `map f (upto n)`.
+-- Rests on lib.Seq (lists equal by their elements).
+use Prim.Native.Nat.{ℕ, zero, suc, _+_, _≤_, _<_}
+use native.Mathlib.Decide.{ℕ-discrete}
+use native.Mathlib.Omega.{arith}
+use mathlib.Core.Path.{_≡_, refl, sym, ap, _∙_}
+use mathlib.Core.Logic.{_≢_}
+use mathlib.Core.Bool.{Bool, true, false, cond}
+use mathlib.Core.List.{List, [], _∷_, _++_, map, flatMap, append-assoc, map-append}
+use lib.ListN.{length, getD, set, length-set, length-map, length-append, List·getD-map}
+use lib.Seq.{ext-getD, getD-set-same, getD-set-other}
+use Rattle.lists.specs.Lists.{from, upto, keep, count, one}
+
+-- ---- in a row
+
+pub from-snoc : (n k : ℕ) → from n (suc k) ≡ from n k ++ ((n + k) ∷ [])
+from-snoc n zero = ap (λ (m : ℕ). m ∷ []) (start n)
+  where
+    start : (n : ℕ) → n ≡ n + zero
+    start n = omega arith
+from-snoc n (suc k) = ap (λ (l : List ℕ). n ∷ l) (from-snoc (suc n) k ∙ ap (λ (m : ℕ). from (suc n) k ++ (m ∷ [])) (next n k))
+  where
+    next : (n k : ℕ) → suc n + k ≡ n + suc k
+    next n k = omega arith
+
+pub upto-suc : (n : ℕ) → upto (suc n) ≡ upto n ++ (n ∷ [])
+upto-suc n = from-snoc 0 n ∙ ap (λ (m : ℕ). upto n ++ (m ∷ [])) (plain n)
+  where
+    plain : (n : ℕ) → 0 + n ≡ n
+    plain n = omega arith
+
+pub from-add : (n j k : ℕ) → from n (j + k) ≡ from n j ++ from (n + j) k
+from-add n zero k = ap (λ (m : ℕ). from n m) (zero-first k) ∙ ap (λ (m : ℕ). from m k) (zero-last n)
+  where
+    zero-first : (k : ℕ) → zero + k ≡ k
+    zero-first k = omega arith
+
+    zero-last : (n : ℕ) → n ≡ n + zero
+    zero-last n = omega arith
+from-add n (suc j) k =
+    ap (λ (m : ℕ). from n m) (out j k) ∙ ap (λ (l : List ℕ). n ∷ l) (from-add (suc n) j k ∙ ap (λ (m : ℕ). from (suc n) j ++ from m k) (over n j))
+  where
+    out : (j k : ℕ) → suc j + k ≡ suc (j + k)
+    out j k = omega arith
+
+    over : (n j : ℕ) → suc n + j ≡ n + suc j
+    over n j = omega arith
+
+pub length-from : (n k : ℕ) → length (from n k) ≡ k
+length-from n zero = refl
+length-from n (suc k) = ap suc (length-from (suc n) k)
+
+pub getD-from : (n k i d : ℕ) → i < k → getD (from n k) i d ≡ n + i
+getD-from n zero i d h = absurd (nothing h)
+  where
+    nothing : {i : ℕ} → i < zero → ⊥
+    nothing h = omega arith
+getD-from n (suc k) zero d h = start n
+  where
+    start : (n : ℕ) → n ≡ n + zero
+    start n = omega arith
+getD-from n (suc k) (suc i) d h = getD-from (suc n) k i d (omega arith) ∙ next n i
+  where
+    next : (n i : ℕ) → suc n + i ≡ n + suc i
+    next n i = omega arith
+
+-- ---- two lists joined
+
+module _ {A : Type 0} where
+  pub keep-append : (f : A → Bool) (xs ys : List A) → keep f (xs ++ ys) ≡ keep f xs ++ keep f ys
+  keep-append f [] ys = refl
+  keep-append f (x ∷ xs) ys = choose (f x) (keep-append f xs ys)
+    where
+      choose : (t : Bool) → keep f (xs ++ ys) ≡ keep f xs ++ keep f ys
+          → cond t (x ∷ keep f (xs ++ ys)) (keep f (xs ++ ys)) ≡ cond t (x ∷ keep f xs) (keep f xs) ++ keep f ys
+      choose true e = ap (λ (l : List A). x ∷ l) e
+      choose false e = e
+
+  pub count-append : (f : A → Bool) (xs ys : List A) → count f (xs ++ ys) ≡ count f xs + count f ys
+  count-append f [] ys = omega arith
+  count-append f (x ∷ xs) ys = omega (arith, count-append f xs ys)
+
+module _ {A B : Type 0} where
+  pub flatMap-append : (f : A → List B) (xs ys : List A) → flatMap f (xs ++ ys) ≡ flatMap f xs ++ flatMap f ys
+  unfolding flatMap
+  flatMap-append f [] ys = refl
+  flatMap-append f (x ∷ xs) ys =
+      ap (λ (l : List B). f x ++ l) (flatMap-append f xs ys) ∙ sym (append-assoc (f x) (flatMap f xs) (flatMap f ys))
+
+-- ---- a table of a function
+
+module _ {A : Type 0} where
+  pub length-table : (f : ℕ → A) (n : ℕ) → length (map f (upto n)) ≡ n
+  length-table f n = length-map (upto n) f ∙ length-from 0 n
+
+  pub getD-table : (f : ℕ → A) (n i : ℕ) (d : A) → i < n → getD (map f (upto n)) i d ≡ f i
+  getD-table f n i d h = inside 0 n i h ∙ ap f (plain i)
+    where
+      plain : (i : ℕ) → 0 + i ≡ i
+      plain i = omega arith
+
+      inside : (m n i : ℕ) → i < n → getD (map f (from m n)) i d ≡ f (m + i)
+      inside m zero i h = absurd (nothing h)
+        where
+          nothing : {i : ℕ} → i < zero → ⊥
+          nothing h = omega arith
+      inside m (suc n) zero h = ap f (start m)
+        where
+          start : (m : ℕ) → m ≡ m + zero
+          start m = omega arith
+      inside m (suc n) (suc i) h = inside (suc m) n i (omega arith) ∙ ap f (next m i)
+        where
+          next : (m i : ℕ) → suc m + i ≡ m + suc i
+          next m i = omega arith
+
+  pub table-suc : (f : ℕ → A) (n : ℕ) → map f (upto (suc n)) ≡ map f (upto n) ++ (f n ∷ [])
+  table-suc f n = ap (map f) (upto-suc n) ∙ map-append f (upto n) (n ∷ [])
+
+  -- a list is the table of its elements
+  pub table-of : (l : List A) (d : A) → map (λ i. getD l i d) (upto (length l)) ≡ l
+  table-of l d =
+      ext-getD d (map (λ i. getD l i d) (upto (length l))) l (length-table (λ i. getD l i d) (length l))
+      (λ i h. getD-table (λ j. getD l j d) (length l) i d (omega (arith, length-table (λ j. getD l j d) (length l))))
+
+  -- two tables that agree below n
+  pub table-same : (f g : ℕ → A) (n : ℕ) → ((i : ℕ) → i < n → f i ≡ g i) → map f (upto n) ≡ map g (upto n)
+  table-same f g zero h = refl
+  table-same f g (suc n) h =
+      table-suc f n ∙ ap (λ (l : List A). l ++ (f n ∷ [])) (table-same f g n (λ i lt. h i (omega arith)))
+      ∙ ap (λ (x : A). map g (upto n) ++ (x ∷ [])) (h n (omega arith))
+      ∙ sym (table-suc g n)
+
+  -- a store into a table: the table of the function changed there
+  pub set-table : (f g : ℕ → A) (n i : ℕ) (v : A) → i < n → g i ≡ v → ((j : ℕ) → j < n → j ≢ i → g j ≡ f j)
+      → set (map f (upto n)) i v ≡ map g (upto n)
+  set-table f g n i v h here there =
+      ext-getD v (set (map f (upto n)) i v) (map g (upto n)) (long ∙ sym (length-table g n))
+      (λ j lt. at j (omega (arith, long)) (ℕ-discrete j i))
+    where
+      long : length (set (map f (upto n)) i v) ≡ n
+      long = length-set (map f (upto n)) i v ∙ length-table f n
+
+      at : (j : ℕ) → j < n → Dec (j ≡ i) → getD (set (map f (upto n)) i v) j v ≡ getD (map g (upto n)) j v
+      at j lt (yes e) =
+          ap (λ (k : ℕ). getD (set (map f (upto n)) i v) k v) e
+          ∙ getD-set-same (map f (upto n)) i v v (omega (arith, length-table f n))
+          ∙ sym here
+          ∙ ap g (sym e)
+          ∙ sym (getD-table g n j v lt)
+      at j lt (no ne) =
+          getD-set-other (map f (upto n)) i j v v ne ∙ getD-table f n j v lt ∙ sym (there j lt ne) ∙ sym (getD-table g n j v lt)

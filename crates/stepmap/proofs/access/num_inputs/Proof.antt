@@ -1,0 +1,19 @@
+-- `stepmap::access::num_inputs` meets its contract: the field stands in node v's record.
+-- Rests on paper's `ins`.
+use Rattle.paper.specs.Map.{ins}
+use borrow.Author.Needs.{needs}
+use Rattle.stepmap.proofs.access.num_inputs.Statement.{statement}
+use Rattle.stepmap.proofs.access.num_inputs.Tie as tie
+
+mul-number-at : tie.Need-mul-number-at
+mul-number-at c = search needs
+
+number-at-requires : tie.Need-number-at-requires
+number-at-requires c κs = search needs
+
+returns : tie.Need-returns
+unfolding ins
+returns c = c .number-at .ensures
+
+pub num-inputs-spec : {M : Type 1} → statement M
+num-inputs-spec = tie.close (tie.spec mul-number-at number-at-requires returns)

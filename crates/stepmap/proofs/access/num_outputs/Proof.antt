@@ -1,0 +1,22 @@
+-- `stepmap::access::num_outputs` meets its contract: the field stands in node v's record.
+-- Rests on paper's `outs`.
+use Rattle.paper.specs.Map.{outs}
+use borrow.Author.Needs.{needs}
+use Rattle.stepmap.proofs.access.num_outputs.Statement.{statement}
+use Rattle.stepmap.proofs.access.num_outputs.Tie as tie
+
+mul-number-at : tie.Need-mul-number-at
+mul-number-at c = search needs
+
+add-number-at : tie.Need-add-number-at
+add-number-at c = search needs
+
+number-at-requires : tie.Need-number-at-requires
+number-at-requires c κs = search needs
+
+returns : tie.Need-returns
+unfolding outs
+returns c = c .number-at .ensures
+
+pub num-outputs-spec : {M : Type 1} → statement M
+num-outputs-spec = tie.close (tie.spec mul-number-at add-number-at number-at-requires returns)

@@ -1,0 +1,4 @@
+pub mod Rows
+pub mod Snoc
+pub mod Turns
+pub mod RoundTrip
