@@ -1,0 +1,14 @@
+pub mod ListsCount
+pub mod ListsCompare
+pub mod ListsIn
+pub mod ListsExtends
+pub mod ListsFound
+pub mod Ports
+pub mod Links
+pub mod Queue
+pub mod Follow
+pub mod Turns
+pub mod Queued
+pub mod Order
+pub mod Cycle
+pub mod Refusals
