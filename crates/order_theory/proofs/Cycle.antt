@@ -17,13 +17,13 @@ use Rattle.paper.specs.Map.{N, L, linkFrom, linkTo, inLinks}
 use Rattle.paper.specs.Order.{queueAfter, order, placeIn}
 use Rattle.paper.specs.Accepted.{GoesBefore}
 use Rattle.paper.specs.Plain.{Linked, DirectedPath, link, onward}
-use Rattle.order_theory.specs.Lists.{Below}
+use Rattle.lists.specs.Bounds.{Below}
 use Rattle.order_theory.specs.Sound.{Sound}
 use Rattle.order_theory.specs.Queued.{filled}
 use Rattle.order_theory.specs.Cycle.{AllOrdered, NoCycle}
-use Rattle.order_theory.proofs.ListsCount.{one-eq, times-upto, times-past}
-use Rattle.order_theory.proofs.ListsCompare.{Missed, missed, below-more, once-more, fits}
-use Rattle.order_theory.proofs.ListsIn.{times-in-back}
+use Rattle.lists.proofs.Count.{one-eq, times-upto, times-past}
+use Rattle.lists.proofs.Compare.{Missed, missed, below-more, once-more, fits}
+use Rattle.lists.proofs.Places.{times-in-back}
 use Rattle.order_theory.proofs.Links.{in-count}
 use Rattle.order_theory.proofs.Queue.{room, filled-most}
 use Rattle.order_theory.proofs.Queued.{turned, queued}

@@ -14,11 +14,11 @@ use Rattle.lists.specs.Lists.{one, count, times}
 use Rattle.lists.proofs.Upto.{count-append}
 use Rattle.paper.specs.Map.{N, L, linkFrom, linkTo, inLinks}
 use Rattle.paper.specs.Order.{Queue, fillsLast, follow}
-use Rattle.order_theory.specs.Lists.{Below}
+use Rattle.lists.specs.Bounds.{Below}
 use Rattle.order_theory.specs.Sound.{Sound}
 use Rattle.order_theory.specs.Queued.{filled, Queued}
-use Rattle.order_theory.proofs.ListsCount.{one-eq, one-ne, cond-small, cond-one, times-append-cond}
-use Rattle.order_theory.proofs.ListsCompare.{once-more}
+use Rattle.lists.proofs.Count.{one-eq, one-ne, cond-small, cond-one, times-append-cond}
+use Rattle.lists.proofs.Compare.{once-more}
 use Rattle.order_theory.proofs.Queue.{filled-below, spare-new}
 
 -- ---- the state after one more link

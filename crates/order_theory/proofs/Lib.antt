@@ -1,8 +1,3 @@
-pub mod ListsCount
-pub mod ListsCompare
-pub mod ListsIn
-pub mod ListsExtends
-pub mod ListsFound
 pub mod Ports
 pub mod Links
 pub mod Queue

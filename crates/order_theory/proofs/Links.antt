@@ -28,9 +28,9 @@ use Rattle.paper.specs.Map.{
   inLinks,
   outLinks,
 }
-use Rattle.order_theory.specs.Lists.{Below}
+use Rattle.lists.specs.Bounds.{Below}
 use Rattle.order_theory.specs.Sound.{Sound}
-use Rattle.order_theory.proofs.ListsCount.{
+use Rattle.lists.proofs.Count.{
   one-eq,
   one-ne,
   one-small,
@@ -44,8 +44,8 @@ use Rattle.order_theory.proofs.ListsCount.{
   times-parts,
   times-nowhere,
 }
-use Rattle.order_theory.proofs.ListsCompare.{same-length}
-use Rattle.order_theory.proofs.ListsIn.{times-place, place-known, place-new}
+use Rattle.lists.proofs.Compare.{same-length}
+use Rattle.lists.proofs.Places.{times-place, place-known, place-new}
 use Rattle.order_theory.proofs.Ports.{ports-end, links-at-output, links-at-input}
 
 -- ---- the ports of a node among all ports

@@ -1,5 +1,5 @@
 -- The order: each node once and known, every link into it forward, and nothing changes once the queue is empty.
--- Rests on Queued (the invariant) and ListsFound (what `first` finds).
+-- Rests on Queued (the invariant) and lists.First (what `first` finds).
 use Prim.Native.Nat.{ℕ, zero, suc, _+_, _-_, _≤_, _<_}
 use native.Mathlib.Omega.{arith}
 use mathlib.Core.Path.{_≡_, sym, ap, _∙_, subst, subst₂}
@@ -15,8 +15,8 @@ use Rattle.paper.specs.Map.{N, L, linkFrom, linkTo}
 use Rattle.paper.specs.Order.{Queue, queueAfter, order, placeIn}
 use Rattle.paper.specs.Accepted.{GoesBefore}
 use Rattle.order_theory.specs.Sound.{Sound}
-use Rattle.order_theory.proofs.ListsIn.{times-in, distinct-times, PlaceBelow, place-times}
-use Rattle.order_theory.proofs.ListsFound.{first-at, first-found}
+use Rattle.lists.proofs.Places.{times-in, distinct-times, PlaceBelow, place-times}
+use Rattle.lists.proofs.First.{first-at, first-found}
 use Rattle.order_theory.proofs.Queue.{joined-once, joined-known, room}
 use Rattle.order_theory.proofs.Turns.{after-over}
 use Rattle.order_theory.proofs.Queued.{queued}

@@ -25,7 +25,7 @@ use Rattle.paper.specs.Map.{
   portLinks,
 }
 use Rattle.order_theory.specs.Sound.{Sound}
-use Rattle.order_theory.proofs.ListsCount.{keep-upto}
+use Rattle.lists.proofs.Count.{keep-upto}
 
 -- the ports of a node end before those of a later node
 pub ports-end : (b : List ℕ) (u v : ℕ) → u < v → firstPort b u + (ins b u + outs b u) ≤ firstPort b v

@@ -12,10 +12,10 @@ use lib.Dec.{eqb}
 use Rattle.lists.specs.Lists.{upto, one, keep, times, In}
 use Rattle.paper.specs.Map.{N, L, linkTo, inLinks}
 use Rattle.paper.specs.Order.{Queue, started}
-use Rattle.order_theory.specs.Lists.{Below}
+use Rattle.lists.specs.Bounds.{Below}
 use Rattle.order_theory.specs.Sound.{Sound}
 use Rattle.order_theory.specs.Queued.{filled, Queued}
-use Rattle.order_theory.proofs.ListsCount.{
+use Rattle.lists.proofs.Count.{
   one-eq,
   one-ne,
   one-small,
@@ -25,8 +25,8 @@ use Rattle.order_theory.proofs.ListsCount.{
   times-keep-past,
   times-upto,
 }
-use Rattle.order_theory.proofs.ListsCompare.{fewer, fits, below-more, once-more}
-use Rattle.order_theory.proofs.ListsIn.{times-in, times-place}
+use Rattle.lists.proofs.Compare.{fewer, fits, below-more, once-more}
+use Rattle.lists.proofs.Places.{times-in, times-place}
 use Rattle.order_theory.proofs.Links.{in-count}
 
 -- ---- links followed at most once

@@ -14,9 +14,9 @@ use Rattle.paper.specs.Map.{N, L, linkFrom, linkTo, inLinks, outLinks}
 use Rattle.paper.specs.Order.{Queue, started, queueAfter}
 use Rattle.order_theory.specs.Sound.{Sound}
 use Rattle.order_theory.specs.Queued.{filled, Queued, frontAt, nextLink, midTurn, Turned}
-use Rattle.order_theory.proofs.ListsCount.{count-take-suc}
-use Rattle.order_theory.proofs.ListsIn.{times-place, place-new}
-use Rattle.order_theory.proofs.ListsExtends.{extends-times, extends-take}
+use Rattle.lists.proofs.Count.{count-take-suc}
+use Rattle.lists.proofs.Places.{times-place, place-new}
+use Rattle.lists.proofs.Extends.{extends-times, extends-take}
 use Rattle.order_theory.proofs.Links.{out-times, entry-known, entry-from, entry-new}
 use Rattle.order_theory.proofs.Queue.{joined-once, spare, spare-room, started-queued}
 use Rattle.order_theory.proofs.Follow.{follow-queued}

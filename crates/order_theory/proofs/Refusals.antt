@@ -1,5 +1,5 @@
 -- What the rulings on links and on cycles say: no refusal 4 makes a map sound, and refusal 6 names the lowest node never ordered.
--- Rests on ListsFound (what `first` finds) and Order (places).
+-- Rests on lists.First (what `first` finds) and Order (places).
 use Prim.Native.Nat.{ℕ, _≤_, _<_}
 use native.Mathlib.Omega.{arith}
 use mathlib.Core.Path.{_≡_, refl, sym, ap, _∙_, subst}
@@ -17,8 +17,8 @@ use Rattle.paper.specs.Order.{order, placeIn, neverOrdered}
 use Rattle.paper.specs.Refusals.{passed, refusal, refuse, badLink, refuseLink, rule45, rule6}
 use Rattle.order_theory.specs.Sound.{Sound}
 use Rattle.order_theory.specs.Cycle.{AllOrdered, Lowest}
-use Rattle.order_theory.proofs.ListsIn.{times-in-back, times-place}
-use Rattle.order_theory.proofs.ListsFound.{FirstOf, first-absent, first-at, first-is, first-none}
+use Rattle.lists.proofs.Places.{times-in-back, times-place}
+use Rattle.lists.proofs.First.{FirstOf, first-absent, first-at, first-is, first-none}
 use Rattle.order_theory.proofs.Order.{placed}
 
 not-passed : {n p : ℕ} → refusal n p ≡ passed → ⊥

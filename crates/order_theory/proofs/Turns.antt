@@ -8,7 +8,7 @@ use lib.ListN.{length, getD, take, drop, drop-of-length-le}
 use lib.Seq.{take-suc, drop-cons, take-length}
 use Rattle.paper.specs.Map.{linkTo, outLinks}
 use Rattle.paper.specs.Order.{Queue, fillsLast, follow, followAll, turn, queueAfter}
-use Rattle.order_theory.specs.Lists.{Extends}
+use Rattle.lists.specs.Bounds.{Extends}
 use Rattle.order_theory.specs.Queued.{frontAt, nextLink, midTurn}
 
 -- ---- links in a row

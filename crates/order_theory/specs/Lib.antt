@@ -1,4 +1,3 @@
-pub mod Lists
 pub mod Sound
 pub mod Queued
 pub mod Cycle

@@ -8,7 +8,7 @@ use lib.Dec.{eqb}
 use Rattle.lists.specs.Lists.{one, count, times}
 use Rattle.paper.specs.Map.{N, L, linkFrom, linkTo, inLinks, outLinks}
 use Rattle.paper.specs.Order.{Queue, followAll, queueAfter}
-use Rattle.order_theory.specs.Lists.{Below}
+use Rattle.lists.specs.Bounds.{Below}
 
 -- how many of the links lead to w
 abbrev pub filled : List ℕ → List ℕ → ℕ → ℕ

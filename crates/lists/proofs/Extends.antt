@@ -7,9 +7,9 @@ use mathlib.Core.List.{List}
 use lib.ListN.{length, take, length-append}
 use lib.Seq.{take-append-le}
 use lib.Dec.{eqb}
 use Rattle.lists.specs.Lists.{times}
 use Rattle.lists.proofs.Upto.{count-append}
-use Rattle.order_theory.specs.Lists.{Extends}
+use Rattle.lists.specs.Bounds.{Extends}
 
 module _ {xs ys : List ℕ} (e : Extends xs ys) where
   pub extends-times : (x : ℕ) → times x xs ≤ times x ys

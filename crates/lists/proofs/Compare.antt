@@ -1,5 +1,5 @@
 -- Lists compared number by number: who stands nowhere more often has no more that pass, and a list without repeats fits below its bound.
--- Rests on ListsCount.
+-- Rests on Count.
 use Prim.Native.Nat.{ℕ, zero, suc, _+_, _≤_, _<_}
 use native.Mathlib.Decide.{ℕ-discrete, decLt}
 use native.Mathlib.Omega.{arith}
@@ -9,10 +9,10 @@ use mathlib.Core.List.{List, [], _∷_}
 use lib.ListN.{length}
 use lib.Dec.{eqb, ltb}
 use borrow.Author.Tests.{lt-ltb, le-ltb}
 use Rattle.lists.specs.Lists.{upto, one, count, times}
 use Rattle.lists.proofs.Upto.{length-from}
-use Rattle.order_theory.specs.Lists.{Below}
-use Rattle.order_theory.proofs.ListsCount.{one-eq, one-ne, one-small, cond-add, cond-mono, cond-none, here, times-upto}
+use Rattle.lists.specs.Bounds.{Below}
+use Rattle.lists.proofs.Count.{one-eq, one-ne, one-small, cond-add, cond-mono, cond-none, here, times-upto}
 
 -- a test that also asks for a number below n
 abbrev pub low : (ℕ → Bool) → ℕ → ℕ → Bool

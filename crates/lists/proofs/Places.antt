@@ -1,5 +1,5 @@
 -- Membership, places and `Distinct`, by how often a number stands in a list.
--- Rests on ListsCount and ListsCompare.
+-- Rests on Count and Compare.
 use Prim.Native.Nat.{ℕ, zero, suc, _≤_, _<_}
 use native.Mathlib.Decide.{ℕ-discrete, decLt}
 use native.Mathlib.Omega.{arith}
@@ -8,9 +8,9 @@ use mathlib.Core.Logic.{_⊎_, inl, inr}
 use mathlib.Core.List.{List, [], _∷_}
 use lib.ListN.{length, getD, take}
 use lib.Dec.{eqb}
 use Rattle.lists.specs.Lists.{times, In, Distinct}
-use Rattle.order_theory.specs.Lists.{Below}
-use Rattle.order_theory.proofs.ListsCount.{one-eq, one-ne, times-take, count-take-suc}
+use Rattle.lists.specs.Bounds.{Below}
+use Rattle.lists.proofs.Count.{one-eq, one-ne, times-take, count-take-suc}
 
 pub times-in : (x : ℕ) (xs : List ℕ) → In x xs → 1 ≤ times x xs
 times-in x [] h = absurd h
