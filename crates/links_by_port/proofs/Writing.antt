@@ -42,9 +42,12 @@ module _ {b : List ℕ} {n l p : ℕ} (read : ReadWell b n l p) (s : Sound b) {k
   pub source-below : sourcePort b k < p
   unfolding sourcePort output
   source-below =
-      omega
-      (arith, read .ports, s .outlet k known,
-      port-below b (linkFrom b k) (ins b (linkFrom b k) + linkOut b k) (s .source k known) (omega (arith, s .outlet k known)))
+      omega (
+        arith,
+        read .ports,
+        s .outlet k known,
+        port-below b (linkFrom b k) (ins b (linkFrom b k) + linkOut b k) (s .source k known) (omega (arith, s .outlet k known)),
+      )
 
   pub target-below : targetPort b k < p
   unfolding targetPort input
@@ -77,3 +80,17 @@ module _ {b a : List ℕ} {n l p firsts keys : ℕ} (ready : Tabled b a n l p fi
         ∙ ap (λ (y : ℕ). sets a keys (map f (upto k) ++ (y ∷ []))) e
         ∙ ap (sets a keys) (sym (table-suc f k))
         ∙ ap (λ (m : ℕ). sets a keys (map f (upto m))) (sym (add-one k))
+
+-- the key of a link, from what is read
+module _ (b : List ℕ) (k : ℕ) {v w : ℕ} where
+  pub source-key : {i o : ℕ} → v ≡ linkFrom b k → w ≡ firstPort b v → i ≡ ins b v → o ≡ linkOut b k → w + i + o ≡ sourcePort b k
+  unfolding sourcePort output
+  source-key e first inputs out = omega (arith, first ∙ ap (firstPort b) e, inputs ∙ ap (ins b) e, out)
+
+  pub source-start : {i : ℕ} → v ≡ linkFrom b k → w ≡ firstPort b v → i ≡ ins b v → w + i ≤ sourcePort b k
+  unfolding sourcePort output
+  source-start e first inputs = omega (arith, first ∙ ap (firstPort b) e, inputs ∙ ap (ins b) e)
+
+  pub target-key : {i : ℕ} → v ≡ linkTo b k → w ≡ firstPort b v → i ≡ linkIn b k → w + i ≡ targetPort b k
+  unfolding targetPort input
+  target-key e first offset = omega (arith, first ∙ ap (firstPort b) e, offset)

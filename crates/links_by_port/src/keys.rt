@@ -13,7 +13,15 @@ use stepmap::access::num_inputs;
 use words::field::wide;
 
 // Writes the output port of each of the l links to `keys`; the nodes' first ports stand at `firsts`.
-pub fn source_keys(b: &[u8], n: usize, l: usize, p: usize, area: &mut [u16], firsts: usize, keys: usize)
+pub fn source_keys(
+    b: &[u8],
+    n: usize,
+    l: usize,
+    p: usize,
+    area: &mut [u16],
+    firsts: usize,
+    keys: usize,
+)
     requires { ⌜ Tabled (now b) (now area) n l p firsts keys ⌝ }
     ensures { λ _. ⌜ now (area .exit) ≡ sets (now (area .entry)) keys (map (sourcePort (now (b .entry))) (upto l)) ⌝ }
 {
@@ -27,7 +35,15 @@ pub fn source_keys(b: &[u8], n: usize, l: usize, p: usize, area: &mut [u16], fir
 }
 
 // Writes the input port of each of the l links to `keys`.
-pub fn target_keys(b: &[u8], n: usize, l: usize, p: usize, area: &mut [u16], firsts: usize, keys: usize)
+pub fn target_keys(
+    b: &[u8],
+    n: usize,
+    l: usize,
+    p: usize,
+    area: &mut [u16],
+    firsts: usize,
+    keys: usize,
+)
     requires { ⌜ Tabled (now b) (now area) n l p firsts keys ⌝ }
     ensures { λ _. ⌜ now (area .exit) ≡ sets (now (area .entry)) keys (map (targetPort (now (b .entry))) (upto l)) ⌝ }
 {

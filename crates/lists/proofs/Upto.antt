@@ -11,6 +11,10 @@ use lib.ListN.{replicate, length, getD, set, length-set, length-map, length-appe
 use lib.Seq.{ext-getD, getD-set-same, getD-set-other}
 use Rattle.lists.specs.Lists.{from, upto, keep, count, one}
 
+-- where a loop that counts up to l is left, what stands after k turns stands after l
+pub at-the-end : {A : Type 0} (after : ℕ → A) {k l : ℕ} → k ≤ l → l ≤ k → after k ≡ after l
+at-the-end after low high = ap after (omega arith)
+
 -- ---- in a row
 
 pub from-snoc : (n k : ℕ) → from n (suc k) ≡ from n k ++ ((n + k) ∷ [])
