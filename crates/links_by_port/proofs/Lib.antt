@@ -1,1 +1,3 @@
 pub mod Writing
+pub mod Sorted
+pub mod NodeLinks

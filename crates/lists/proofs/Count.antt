@@ -5,7 +5,7 @@ use native.Mathlib.Decide.{ℕ-discrete}
 use native.Mathlib.Omega.{arith}
 use mathlib.Core.Path.{_≡_, refl, sym, ap, _∙_}
 use mathlib.Core.Bool.{Bool, true, false, cond}
-use mathlib.Core.List.{List, [], _∷_, _++_, flatMap}
+use mathlib.Core.List.{List, [], _∷_, _++_, map, flatMap}
 use lib.ListN.{length, getD, take, drop, take-append-drop}
 use lib.Seq.{take-suc}
 use lib.Dec.{eqb}
@@ -161,3 +161,13 @@ pub count-take-suc : (f : ℕ → Bool) (xs : List ℕ) (j : ℕ) → j < length
     → count f (take (suc j) xs) ≡ count f (take j xs) + one (f (getD xs j 0))
 count-take-suc f xs j h =
     omega (arith, ap (count f) (take-suc xs j 0 h), count-append f (take j xs) (getD xs j 0 ∷ []))
+
+-- ---- the same count, of other things
+
+pub count-map : {A B : Type 0} (f : B → Bool) (g : A → B) (xs : List A) → count f (map g xs) ≡ count (λ x. f (g x)) xs
+count-map f g [] = refl
+count-map f g (x ∷ xs) = ap (λ (n : ℕ). one (f (g x)) + n) (count-map f g xs)
+
+pub count-same : {A : Type 0} (f g : A → Bool) → ((x : A) → f x ≡ g x) → (xs : List A) → count f xs ≡ count g xs
+count-same f g h [] = refl
+count-same f g h (x ∷ xs) = ap (λ (t : Bool). one t + count f xs) (h x) ∙ ap (λ (n : ℕ). one (g x) + n) (count-same f g h xs)

@@ -3,7 +3,7 @@
 use Prim.Native.Nat.{ℕ, zero, suc, _+_, _≤_, _<_}
 use native.Mathlib.Decide.{ℕ-discrete}
 use native.Mathlib.Omega.{arith}
-use mathlib.Core.Path.{_≡_, refl, sym, ap, _∙_}
+use mathlib.Core.Path.{_≡_, refl, sym, ap, ap₂, _∙_}
 use mathlib.Core.Logic.{_≢_}
 use mathlib.Core.Bool.{Bool, true, false, cond}
 use mathlib.Core.List.{List, [], _∷_, _++_, map, flatMap, append-assoc, map-append}
@@ -165,3 +165,27 @@ module _ {A : Type 0} where
           ∙ sym (getD-table g n j v lt)
       at j lt (no ne) =
           getD-set-other (map f (upto n)) i j v v ne ∙ getD-table f n j v lt ∙ sym (there j lt ne) ∙ sym (getD-table g n j v lt)
+
+-- ---- lists made port by port
+
+pub keep-none : {A : Type 0} (xs : List A) → keep (λ x. false) xs ≡ []
+keep-none [] = refl
+keep-none (x ∷ xs) = keep-none xs
+
+-- two makings that agree on the numbers in a row
+pub flatMap-from : {A : Type 0} (f g : ℕ → List A) (n k : ℕ) → ((i : ℕ) → i < k → f (n + i) ≡ g (n + i)) → flatMap f (from n k) ≡ flatMap g (from n k)
+unfolding flatMap
+flatMap-from f g n zero h = refl
+flatMap-from {A} f g n (suc k) h =
+    ap₂ (λ (x y : List A). x ++ y) (ap f (here n) ∙ h 0 (omega arith) ∙ ap g (sym (here n)))
+    (flatMap-from f g (suc n) k (λ i l. ap f (on n i) ∙ h (suc i) (omega arith) ∙ ap g (sym (on n i))))
+  where
+    here : (n : ℕ) → n ≡ n + 0
+    here n = omega arith
+    on : (n i : ℕ) → suc n + i ≡ n + suc i
+    on n i = omega arith
+
+pub flatMap-none : {A : Type 0} (n k : ℕ) → flatMap {B = A} (λ (i : ℕ). []) (from n k) ≡ []
+unfolding flatMap
+flatMap-none n zero = refl
+flatMap-none n (suc k) = flatMap-none (suc n) k
