@@ -82,7 +82,7 @@ module _ {b : List ℕ} (s : Sound b) where
   by-key f q =
       ap (λ (n : ℕ). keep (λ k. eqb (getD (map f (upto (L b))) k 0) q) (upto n)) (length-table f (L b))
       ∙ keep-upto (λ k. eqb (getD (map f (upto (L b))) k 0) q) (λ k. eqb (f k) q) (L b)
-        (λ k h. ap (λ (x : ℕ). eqb x q) (getD-table f (L b) k 0 h))
+      (λ k h. ap (λ (x : ℕ). eqb x q) (getD-table f (L b) k 0 h))
 
   nothing : (f : ℕ → ℕ) (q : ℕ) → ((k : ℕ) → k < L b → eqb (f k) q ≡ false) → placesOf (map f (upto (L b))) q ≡ []
   nothing f q h = by-key f q ∙ keep-upto (λ k. eqb (f k) q) (λ k. false) (L b) h ∙ keep-none (upto (L b))
@@ -108,7 +108,7 @@ module _ {b : List ℕ} (s : Sound b) where
         ap (flatMap f) (from-add (firstPort b v) (ins b v) (outs b v))
         ∙ flatMap-append f (from (firstPort b v) (ins b v)) (from (firstPort b v + ins b v) (outs b v))
         ∙ ap₂ (λ (m n : ℕ). flatMap f (from m (ins b v)) ++ flatMap f (from n (outs b v))) (sym (add-zero (firstPort b v)))
-          (sym (add-zero (firstPort b v + ins b v)))
+        (sym (add-zero (firstPort b v + ins b v)))
 
     offset-in : (i : ℕ) → input b v 0 + i ≡ input b v i
     unfolding input
@@ -124,10 +124,10 @@ module _ {b : List ℕ} (s : Sound b) where
     source-links =
         ports-made places
         ∙ ap₂ (λ (x y : List ℕ). x ++ y)
-          (flatMap-from places (λ q. []) (input b v 0) (ins b v) (λ i h. ap places (offset-in i) ∙ no-source i h)
-            ∙ flatMap-none (input b v 0) (ins b v))
-          (flatMap-from places (portLinks b) (output b v 0) (outs b v)
-            (λ o h. ap places (offset-out o) ∙ at-output o h ∙ ap (portLinks b) (sym (offset-out o))))
+        (flatMap-from places (λ q. []) (input b v 0) (ins b v) (λ i h. ap places (offset-in i) ∙ no-source i h)
+        ∙ flatMap-none (input b v 0) (ins b v))
+        (flatMap-from places (portLinks b) (output b v 0) (outs b v)
+        (λ o h. ap places (offset-out o) ∙ at-output o h ∙ ap (portLinks b) (sym (offset-out o))))
       where
         places : ℕ → List ℕ
         places = placesOf (map (sourcePort b) (upto (L b)))
@@ -137,10 +137,10 @@ module _ {b : List ℕ} (s : Sound b) where
     target-links =
         ports-made places
         ∙ ap₂ (λ (x y : List ℕ). x ++ y)
-          (flatMap-from places (portLinks b) (input b v 0) (ins b v)
-            (λ i h. ap places (offset-in i) ∙ at-input i h ∙ ap (portLinks b) (sym (offset-in i))))
-          (flatMap-from places (λ q. []) (output b v 0) (outs b v) (λ o h. ap places (offset-out o) ∙ no-target o h)
-            ∙ flatMap-none (output b v 0) (outs b v))
+        (flatMap-from places (portLinks b) (input b v 0) (ins b v)
+        (λ i h. ap places (offset-in i) ∙ at-input i h ∙ ap (portLinks b) (sym (offset-in i))))
+        (flatMap-from places (λ q. []) (output b v 0) (outs b v) (λ o h. ap places (offset-out o) ∙ no-target o h)
+        ∙ flatMap-none (output b v 0) (outs b v))
         ∙ append-nil (flatMap (portLinks b) (inputs b v))
       where
         places : ℕ → List ℕ
@@ -152,17 +152,17 @@ module _ {b : List ℕ} (s : Sound b) where
       node-part : (f : ℕ → ℕ) (links : List ℕ)
           → flatMap (placesOf (map f (upto (L b)))) (from (firstPort b v) (ins b v + outs b v)) ≡ links
           → part (sortedBy (map f (upto (L b))) (P b)) (below (map f (upto (L b))) (firstPort b v))
-              (below (map f (upto (L b))) (firstPort b (suc v)) - below (map f (upto (L b))) (firstPort b v))
-            ≡ links
+          (below (map f (upto (L b))) (firstPort b (suc v)) - below (map f (upto (L b))) (firstPort b v))
+          ≡ links
       unfolding firstPort P
       node-part f links e = ports-part (map f (upto (L b))) (P b) (firstPort b v) (ins b v + outs b v) (ports-end b v (N b) h) ∙ e
 
       pub out-part : part (sortedBy (map (sourcePort b) (upto (L b))) (P b)) (below (map (sourcePort b) (upto (L b))) (firstPort b v))
           (below (map (sourcePort b) (upto (L b))) (firstPort b (suc v)) - below (map (sourcePort b) (upto (L b))) (firstPort b v))
-        ≡ outLinks b v
+          ≡ outLinks b v
       out-part = node-part (sourcePort b) (outLinks b v) source-links
 
       pub in-part : part (sortedBy (map (targetPort b) (upto (L b))) (P b)) (below (map (targetPort b) (upto (L b))) (firstPort b v))
           (below (map (targetPort b) (upto (L b))) (firstPort b (suc v)) - below (map (targetPort b) (upto (L b))) (firstPort b v))
-        ≡ inLinks b v
+          ≡ inLinks b v
       in-part = node-part (targetPort b) (inLinks b v) target-links

@@ -14,7 +14,7 @@ use Rattle.counting_sort.specs.Keyed.{Sorting, keysOf}
 use Rattle.links_by_port.specs.Tabled.{Roomy, byPort}
 
 module _ {b a : List ℕ} {n l p firsts keys starts sorted : ℕ} (ready : Roomy b a n l p firsts keys starts sorted) (f : ℕ → ℕ)
-  (ports : (k : ℕ) → k < l → f k < p) {m : List ℕ} (written : m ≡ sets a keys (map f (upto l))) where
+    (ports : (k : ℕ) → k < l → f k < p) {m : List ℕ} (written : m ≡ sets a keys (map f (upto l))) where
   fits : keys + length (map f (upto l)) ≤ length a
   fits = omega (arith, length-table f l, ready .tabled .room)
 
@@ -37,7 +37,7 @@ module _ {b a : List ℕ} {n l p firsts keys starts sorted : ℕ} (ready : Roomy
         after = ready .after-starts;
         room = omega (arith, ap length written ∙ length-sets a keys (map f (upto l)), ready .room);
         small = omega (arith, ready .tabled .read .few-links);
-        known = λ k h. omega (arith, key-is k h, ports k h)
+        known = λ k h. omega (arith, key-is k h, ports k h);
       }
 
   pub by-port : {r : List ℕ} → r ≡ sets (sets m starts (startsBy (keysOf m keys l) p)) sorted (sortedBy (keysOf m keys l) p)

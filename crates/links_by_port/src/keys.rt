@@ -57,7 +57,15 @@ pub fn target_keys(
 }
 
 // Writes the node that each of the l links ends at to `keys`.
-pub fn target_nodes(b: &[u8], n: usize, l: usize, p: usize, area: &mut [u16], firsts: usize, keys: usize)
+pub fn target_nodes(
+    b: &[u8],
+    n: usize,
+    l: usize,
+    p: usize,
+    area: &mut [u16],
+    firsts: usize,
+    keys: usize,
+)
     requires { ⌜ Tabled (now b) (now area) n l p firsts keys ⌝ }
     ensures { λ _. ⌜ now (area .exit) ≡ sets (now (area .entry)) keys (map (linkTo (now (b .entry))) (upto l)) ⌝ }
 {

@@ -182,6 +182,7 @@ flatMap-from {A} f g n (suc k) h =
   where
     here : (n : ℕ) → n ≡ n + 0
     here n = omega arith
+
     on : (n i : ℕ) → suc n + i ≡ n + suc i
     on n i = omega arith
 

@@ -1,2 +1,5 @@
 pub mod Joining
 pub mod Leftover
+pub mod Indexing
+pub mod Laying
+pub mod Turning

@@ -57,9 +57,10 @@ loop-less : tie.Need-loop-less Inv-loop μ-loop
 loop-less c = omega arith
 
 loop-again : tie.Need-loop-again Inv-loop μ-loop
-loop-again c =
-    (omega (arith, c .before .loop-test .taken),
-    one-more (c .before .before .before .before .before .pre) (linkTo (c .before .before .before .before .before .args .b .now)) (c .before .loop-test .taken) (c .before .before .loop .inv .1) (c .link-to .ensures))
+loop-again c = (
+  omega (arith, c .before .loop-test .taken),
+  one-more (c .before .before .before .before .before .pre) (linkTo (c .before .before .before .before .before .args .b .now)) (c .before .loop-test .taken) (c .before .before .loop .inv .1) (c .link-to .ensures),
+)
 
 same-length : tie.Need-same-length Inv-loop μ-loop
 same-length c = as-long (c .before .before .before .before .pre) (linkTo (c .before .before .before .before .args .b .now)) (c .before .loop .k) (c .before .loop .inv .1)
@@ -68,7 +69,7 @@ returns : tie.Need-returns Inv-loop μ-loop
 returns c =
     c .before .loop .inv .1
     ∙ at-the-end (λ k. sets (c .before .before .before .before .args .area .now) (c .before .before .before .before .args .keys) (map (linkTo (c .before .before .before .before .args .b .now)) (upto k)))
-      (c .before .loop .inv .0) (c .loop-test .left)
+    (c .before .loop .inv .0) (c .loop-test .left)
 
 pub target-nodes-spec : {M : Type 1} → statement M
 target-nodes-spec =
