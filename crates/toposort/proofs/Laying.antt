@@ -23,7 +23,7 @@ use Rattle.order_theory.proofs.Queue.{room, spare, spare-room}
 use Rattle.toposort.specs.Queue.{Counters, Following, lowered, followed}
 use Rattle.toposort.specs.Standing.{openInputs, laid}
 
-length-open : (b : List ℕ) (n : ℕ) (links : List ℕ) → length (openInputs b n links) ≡ n
+pub length-open : (b : List ℕ) (n : ℕ) (links : List ℕ) → length (openInputs b n links) ≡ n
 unfolding openInputs
 length-open b n links = length-table (λ w. length (inLinks b w) - filled b links w) n
 

@@ -3,3 +3,4 @@ pub mod Leftover
 pub mod Indexing
 pub mod Laying
 pub mod Turning
+pub mod Running

@@ -3,7 +3,7 @@
 ghost use mathlib.Core.Path.{_≡_};
 ghost use Prim.Native.Nat.{_+_, _<_};
 ghost use lib.ListN.{length, getD};
-ghost use Rattle.paper.specs.Order.{queueAfter};
+ghost use Rattle.paper.specs.Order.{order as orderOfMap, queueAfter};
 ghost use Rattle.toposort.specs.Standing.{Spanned, Standing, laid};
 use super::queue::follow;
 use stepmap::access::link_to;
@@ -46,4 +46,29 @@ pub fn turn(
         at += 1;
     }
     grown
+}
+
+// Takes turns until the queue is empty; answers how many nodes are ordered.
+pub fn all_turns(
+    b: &[u8],
+    n: usize,
+    area: &mut [u16],
+    order: usize,
+    firsts: usize,
+    starts: usize,
+    sorted: usize,
+    counts: usize,
+    joined: usize,
+) -> usize
+    requires { ⌜ Standing (now b) (now area) n order firsts starts sorted counts 0 joined ⌝ }
+    ensures { λ r. ⌜ (r ≡ length (orderOfMap (now (b .entry))))
+        × (now (area .exit) ≡ laid (now (b .entry)) (now (area .entry)) n order counts (queueAfter (now (b .entry)) n)) ⌝ }
+{
+    let mut ordered = joined;
+    let mut t = 0;
+    while t < ordered {
+        ordered = turn(b, n, area, order, firsts, starts, sorted, counts, t, ordered);
+        t += 1;
+    }
+    ordered
 }
