@@ -3,7 +3,7 @@
 use Prim.Native.Nat.{ℕ, zero, suc, _≤_, _<_}
 use native.Mathlib.Decide.{ℕ-discrete, decLt}
 use native.Mathlib.Omega.{arith}
-use mathlib.Core.Path.{_≡_, refl, sym, ap, _∙_, subst}
+use mathlib.Core.Path.{_≡_, refl, sym, ap, ap₂, _∙_, subst}
 use mathlib.Core.Bool.{Bool, true, false, true≢false}
 use Rattle.lists.specs.Found.{Found, absent, at, orElse, placed, first}
 
@@ -73,3 +73,9 @@ first-none f n h = go (first f n) refl
     go (at i) q =
         let r = first-at f n i q in
         absurd (true≢false (sym (r .passes) ∙ h i (r .known)))
+
+-- two tests that agree below n find the same
+pub first-same : (f g : ℕ → Bool) (n : ℕ) → ((k : ℕ) → k < n → f k ≡ g k) → first f n ≡ first g n
+first-same f g zero h = refl
+first-same f g (suc n) h =
+    ap₂ (λ (x : Found) (t : Bool). orElse x (placed t n)) (first-same f g n (λ k l. h k (omega arith))) (h n (omega arith))

@@ -4,3 +4,5 @@ pub mod Indexing
 pub mod Laying
 pub mod Turning
 pub mod Running
+pub mod Inputs
+pub mod Ordered

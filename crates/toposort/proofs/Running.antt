@@ -41,7 +41,7 @@ module _ {b a : List ℕ} {n order firsts starts sorted counts : ℕ} (index : I
   unfolding laid
   between q h at m low high =
       part-sets-out (sets a order (q .joined)) counts (openInputs b n (q .followed)) at m 0 (inl high)
-        (omega (arith, length-sets a order (q .joined), index .room))
+      (omega (arith, length-sets a order (q .joined), index .room))
       ∙ part-sets-out a order (q .joined) at m 0 (inr (omega (arith, index .after-order))) (omega (arith, index .room))
 
   pub as-long : (q : Queue) → length (laid b a n order counts q) ≡ length a
@@ -59,11 +59,11 @@ module _ {b a : List ℕ} {n order firsts starts sorted counts : ℕ} (index : I
         after-sorted = index .after-sorted;
         room = omega (arith, as-long q, index .room);
         firsts-stand =
-          between q h firsts (n + 1) (omega arith) (omega (arith, index .after-firsts, index .after-starts, index .after-sorted)) ∙ index .firsts-stand;
+            between q h firsts (n + 1) (omega arith) (omega (arith, index .after-firsts, index .after-starts, index .after-sorted)) ∙ index .firsts-stand;
         starts-stand =
-          between q h starts (P b + 1) (omega (arith, index .after-firsts)) (omega (arith, index .after-starts, index .after-sorted)) ∙ index .starts-stand;
+            between q h starts (P b + 1) (omega (arith, index .after-firsts)) (omega (arith, index .after-starts, index .after-sorted)) ∙ index .starts-stand;
         sorted-stand =
-          between q h sorted (L b) (omega (arith, index .after-firsts, index .after-starts)) (omega (arith, index .after-sorted)) ∙ index .sorted-stand
+            between q h sorted (L b) (omega (arith, index .after-firsts, index .after-starts)) (omega (arith, index .after-sorted)) ∙ index .sorted-stand;
       }
 
   -- the queue and the counters, as the turn finds them
@@ -71,7 +71,7 @@ module _ {b a : List ℕ} {n order firsts starts sorted counts : ℕ} (index : I
   unfolding laid
   queue-stands q h =
       part-sets-out (sets a order (q .joined)) counts (openInputs b n (q .followed)) order (length (q .joined)) 0 (inl (omega (arith, ready .apart)))
-        (omega (arith, length-sets a order (q .joined), ready .apart, ready .fits))
+      (omega (arith, length-sets a order (q .joined), ready .apart, ready .fits))
       ∙ part-sets-in a order (q .joined) 0 (omega (arith, ready .apart, ready .fits))
 
   counters-stand : (q : Queue) → part (laid b a n order counts q) counts n ≡ openInputs b n (q .followed)
@@ -79,7 +79,7 @@ module _ {b a : List ℕ} {n order firsts starts sorted counts : ℕ} (index : I
   counters-stand q =
       ap (part (laid b a n order counts q) counts) (sym (length-open b n (q .followed)))
       ∙ part-sets-in (sets a order (q .joined)) counts (openInputs b n (q .followed)) 0
-        (omega (arith, length-open b n (q .followed), length-sets a order (q .joined), ready .fits))
+      (omega (arith, length-open b n (q .followed), length-sets a order (q .joined), ready .fits))
 
   module _ {area : List ℕ} (t : ℕ) {ordered : ℕ} (count : ordered ≡ length (queueAfter b t .joined)) (now : area ≡ laid b a n order counts (queueAfter b t)) where
     pub standing : Standing b area n order firsts starts sorted counts t ordered
@@ -89,30 +89,36 @@ module _ {b a : List ℕ} {n order firsts starts sorted counts : ℕ} (index : I
           index = index-stands (queueAfter b t) (few t);
           count = count;
           queue = ap (part (laid b a n order counts (queueAfter b t)) order) count ∙ queue-stands (queueAfter b t) (few t);
-          counters = counters-stand (queueAfter b t)
+          counters = counters-stand (queueAfter b t);
         })
 
     -- what is laid over is gone
-    pub over : {r : List ℕ} → r ≡ laid b area n order counts (queueAfter b (t + 1)) → r ≡ laid b a n order counts (queueAfter b (t + 1))
+    pub over : (u : ℕ) → length (queueAfter b t .joined) ≤ length (queueAfter b u .joined) → {r : List ℕ}
+        → r ≡ laid b area n order counts (queueAfter b u) → r ≡ laid b a n order counts (queueAfter b u)
     unfolding laid
-    over e =
-        e ∙ ap (λ (m : List ℕ). laid b m n order counts (queueAfter b (t + 1))) now
+    over u grows e =
+        e ∙ ap (λ (m : List ℕ). laid b m n order counts (queueAfter b u)) now
         ∙ ap (λ (m : List ℕ). sets m counts new)
-          (sets-comm (sets a order old-nodes) counts old order nodes (inr (omega (arith, few (t + 1), ready .apart)))
-            ∙ ap (λ (m : List ℕ). sets m counts old) (sets-sets a order old-nodes nodes grows))
-        ∙ sets-sets (sets a order nodes) counts old new (omega (arith, length-open b n (queueAfter b t .followed), length-open b n (queueAfter b (t + 1) .followed)))
+        (sets-comm (sets a order old-nodes) counts old order nodes (inr (omega (arith, few u, ready .apart)))
+        ∙ ap (λ (m : List ℕ). sets m counts old) (sets-sets a order old-nodes nodes grows))
+        ∙ sets-sets (sets a order nodes) counts old new (omega (arith, length-open b n (queueAfter b t .followed), length-open b n (queueAfter b u .followed)))
       where
         old-nodes : List ℕ
         old-nodes = queueAfter b t .joined
+
         nodes : List ℕ
-        nodes = queueAfter b (t + 1) .joined
+        nodes = queueAfter b u .joined
+
         old : List ℕ
         old = openInputs b n (queueAfter b t .followed)
+
         new : List ℕ
-        new = openInputs b n (queueAfter b (t + 1) .followed)
-        grows : length old-nodes ≤ length nodes
-        grows =
-            subst (λ (u : ℕ). length old-nodes ≤ length (queueAfter b u .joined)) (sym (add-one t)) (extends-length (after-grows b t))
+        new = openInputs b n (queueAfter b u .followed)
+
+    pub over-next : {r : List ℕ} → r ≡ laid b area n order counts (queueAfter b (t + 1)) → r ≡ laid b a n order counts (queueAfter b (t + 1))
+    over-next =
+        over (t + 1)
+        (subst (λ (u : ℕ). length (queueAfter b t .joined) ≤ length (queueAfter b u .joined)) (sym (add-one t)) (extends-length (after-grows b t)))
 
     pub no-fewer : t < ordered → {r : ℕ} → r ≡ length (queueAfter b (t + 1) .joined) → t + 1 ≤ r
     no-fewer h e =
@@ -140,6 +146,6 @@ unfolding laid
 none-taken {b} {a} {n} {order} {counts = counts} {joined = joined} st =
     sym (sets-part a counts n 0 (st .index .room))
     ∙ ap (λ (m : List ℕ). sets m counts (part a counts n))
-      (sym (sets-part a order joined 0 (omega (arith, st .count, few (st .index) 0, counters-ready (st .index) .apart, st .index .room)))
-        ∙ ap (sets a order) (st .queue))
+    (sym (sets-part a order joined 0 (omega (arith, st .count, few (st .index) 0, counters-ready (st .index) .apart, st .index .room)))
+    ∙ ap (sets a order) (st .queue))
     ∙ ap (sets (sets a order (queueAfter b 0 .joined)) counts) (st .counters)

@@ -12,6 +12,7 @@ use Rattle.paper.specs.Order.{Queue, queueAfter}
 use Rattle.paper.specs.Refusals.{passed, rule45}
 use Rattle.stepmap.specs.Formed.{ReadWell}
 use Rattle.counting_sort.specs.Sorted.{startsBy, sortedBy}
+use Rattle.links_by_port.specs.Tabled.{Tabled}
 
 -- A sound map's first ports, where each port's links start, and the links by output port stand in the area, one section after the
 -- other: before them room for the order, after them for a counter of each node.
@@ -46,3 +47,15 @@ pub record Standing (b a : List ℕ) (n order firsts starts sorted counts t join
 pub record Spanned (a : List ℕ) (firsts starts v : ℕ) : Type 0 where
   pub first-inside : firsts + v < length a
   pub start-inside : starts + getD a (firsts + v) 0 < length a
+
+-- the links' targets go to `keys`, and a counter of each node to `counts`
+pub record Counting (b a : List ℕ) (n l p firsts keys counts : ℕ) : Type 0 where
+  pub tabled : Tabled b a n l p firsts keys
+  pub after : keys + l ≤ counts
+  pub room : counts + n ≤ length a
+
+-- all that ordering asks: the links by output port stand, and the keys have a section of their own
+pub record Ordering (b a : List ℕ) (n l p order firsts keys starts sorted counts : ℕ) : Type 0 where
+  pub index : Indexed b a n order firsts starts sorted counts
+  pub tabled : Tabled b a n l p firsts keys
+  pub after : keys + l ≤ starts

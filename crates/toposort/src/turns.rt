@@ -67,7 +67,18 @@ pub fn all_turns(
     let mut ordered = joined;
     let mut t = 0;
     while t < ordered {
-        ordered = turn(b, n, area, order, firsts, starts, sorted, counts, t, ordered);
+        ordered = turn(
+            b,
+            n,
+            area,
+            order,
+            firsts,
+            starts,
+            sorted,
+            counts,
+            t,
+            ordered,
+        );
         t += 1;
     }
     ordered

@@ -7,7 +7,7 @@ use mathlib.Core.Path.{_≡_, ap, _∙_}
 use lib.ListN.{length}
 use Rattle.paper.specs.Order.{queueAfter}
 use Rattle.toposort.specs.Standing.{laid}
-use Rattle.toposort.proofs.Running.{as-long, standing, over, no-fewer, turns-left, order-count, order-laid, none-taken}
+use Rattle.toposort.proofs.Running.{as-long, standing, over-next, no-fewer, turns-left, order-count, order-laid, none-taken}
 use Rattle.toposort.proofs.turns.all_turns.Statement.{statement}
 use Rattle.toposort.proofs.turns.all_turns.Tie as tie
 
@@ -31,18 +31,20 @@ loop-less : tie.Need-loop-less Inv-loop μ-loop
 loop-less c = omega (arith, turns-left (c .before .before .before .before .before .before .before .before .pre .index) (c .before .before .before .before .before .loop .t) (c .before .before .before .before .before .loop .inv .1) (c .before .before .before .before .before .loop .inv .2) (c .before .before .before .before .loop-test .taken))
 
 loop-again : tie.Need-loop-again Inv-loop μ-loop
-loop-again c =
-    (no-fewer (c .before .before .before .before .before .before .before .before .pre .index) (c .before .before .before .before .before .loop .t) (c .before .before .before .before .before .loop .inv .1) (c .before .before .before .before .before .loop .inv .2) (c .before .before .before .before .loop-test .taken) (c .before .before .turn .ensures .0),
-    c .before .before .turn .ensures .0,
-    over (c .before .before .before .before .before .before .before .before .pre .index) (c .before .before .before .before .before .loop .t) (c .before .before .before .before .before .loop .inv .1) (c .before .before .before .before .before .loop .inv .2) (c .before .before .turn .ensures .1))
+loop-again c = (
+  no-fewer (c .before .before .before .before .before .before .before .before .pre .index) (c .before .before .before .before .before .loop .t) (c .before .before .before .before .before .loop .inv .1) (c .before .before .before .before .before .loop .inv .2) (c .before .before .before .before .loop-test .taken) (c .before .before .turn .ensures .0),
+  c .before .before .turn .ensures .0,
+  over-next (c .before .before .before .before .before .before .before .before .pre .index) (c .before .before .before .before .before .loop .t) (c .before .before .before .before .before .loop .inv .1) (c .before .before .before .before .before .loop .inv .2) (c .before .before .turn .ensures .1),
+)
 
 same-length : tie.Need-same-length Inv-loop μ-loop
 same-length c = ap length (c .before .loop .inv .2) ∙ as-long (c .before .before .before .before .pre .index) (queueAfter (c .before .before .before .before .args .b .now) (c .before .loop .t))
 
 returns : tie.Need-returns Inv-loop μ-loop
-returns c =
-    (order-count (c .before .before .before .before .pre .index) (c .before .loop .t) (c .before .loop .inv .1) (c .before .loop .inv .2) (c .loop-test .left) (c .before .loop .inv .0),
-    order-laid (c .before .before .before .before .pre .index) (c .before .loop .t) (c .before .loop .inv .1) (c .before .loop .inv .2) (c .loop-test .left) (c .before .loop .inv .0))
+returns c = (
+  order-count (c .before .before .before .before .pre .index) (c .before .loop .t) (c .before .loop .inv .1) (c .before .loop .inv .2) (c .loop-test .left) (c .before .loop .inv .0),
+  order-laid (c .before .before .before .before .pre .index) (c .before .loop .t) (c .before .loop .inv .1) (c .before .loop .inv .2) (c .loop-test .left) (c .before .loop .inv .0),
+)
 
 pub all-turns-spec : {M : Type 1} → statement M
 all-turns-spec =
