@@ -2,15 +2,17 @@
 -- Rests on Said, Formed and Reading.
 use Prim.Native.Nat.{ℕ}
 use native.Mathlib.Omega.{arith}
-use mathlib.Core.Path.{_≡_, refl, sym, ap, _∙_}
 use mathlib.Core.Bool.{Bool, true, false}
 use mathlib.Core.List.{List}
+use mathlib.Core.Path.{_≡_, refl, sym, ap, _∙_}
 use Rattle.paper.specs.Map.{N, L, P, wellFormed, withinLimits}
 use Rattle.paper.specs.Refusals.{Answer, refused, answered}
+use Rattle.stepmap.specs.Formed.{ReadWell}
+use Rattle.stepmap.specs.Said.{mapSaid, linksSaid}
+use Rattle.stepmap.specs.declared.links.Links.{Links}
+use Rattle.stepmap.specs.declared.links.Links.the-variants.{Sound, Missing, Second}
 use Rattle.stepmap.specs.declared.read.StepMap.{StepMap}
 use Rattle.stepmap.specs.declared.read.StepMap.the-variants.{Malformed, TooLarge, Sized}
-use Rattle.stepmap.specs.Formed.{ReadWell}
-use Rattle.stepmap.specs.Said.{mapSaid}
 use Rattle.stepmap.proofs.Reading.{formed-size, limits, ruled, refused-1, refused-2, sized}
 
 abbrev Sizes : Type 0
@@ -29,6 +31,17 @@ mapSaid-injective TooLarge (Sized n l p) e = cc
 mapSaid-injective (Sized n l p) Malformed e = cc
 mapSaid-injective (Sized n l p) TooLarge e = cc
 mapSaid-injective (Sized n l p) (Sized n' l' p') e = ap (λ (t : Sizes). Sized (t .0) (t .1) (t .2)) (same-sizes e)
+
+pub linksSaid-injective : (r s : Links) → linksSaid r ≡ linksSaid s → r ≡ s
+linksSaid-injective Sound Sound e = refl
+linksSaid-injective Sound (Missing j) e = cc
+linksSaid-injective Sound (Second j) e = cc
+linksSaid-injective (Missing k) Sound e = cc
+linksSaid-injective (Missing k) (Missing j) e = cc
+linksSaid-injective (Missing k) (Second j) e = cc
+linksSaid-injective (Second k) Sound e = cc
+linksSaid-injective (Second k) (Missing j) e = cc
+linksSaid-injective (Second k) (Second j) e = cc
 
 -- an answer is no refusal
 apart : {s : Sizes} {a : Answer Sizes} {n p : ℕ} → answered s ≡ a → refused n p ≡ a → ⊥

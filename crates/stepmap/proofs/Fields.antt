@@ -2,11 +2,11 @@
 -- Rests on paper's Map.
 use Prim.Native.Nat.{ℕ, _+_, _*_, _<_}
 use native.Mathlib.Omega.{arith}
+use mathlib.Core.List.{List}
+use mathlib.Core.Path.{_≡_, sym, ap}
+use lib.ListN.{getD}
 use mir.Syntax.{w8}
 use mir.Val.{Fits}
-use lib.ListN.{getD}
-use mathlib.Core.Path.{_≡_, sym, ap}
-use mathlib.Core.List.{List}
 use Rattle.paper.specs.Map.{N, word, linkAt, linkFrom, linkOut, linkTo, linkIn}
 
 module _ (b : List ℕ) (n k : ℕ) (nodes : N b ≡ n) where

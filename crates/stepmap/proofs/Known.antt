@@ -2,8 +2,8 @@
 -- Rests on Formed.
 use Prim.Native.Nat.{ℕ, _<_}
 use native.Mathlib.Omega.{arith}
-use mathlib.Core.Path.{ap}
 use mathlib.Core.List.{List}
+use mathlib.Core.Path.{sym, ap, subst}
 use Rattle.paper.specs.Map.{P, firstPort}
 use Rattle.stepmap.specs.Formed.{ReadWell, HasLink, Numbered, HasPort}
 
@@ -18,6 +18,10 @@ module _ {b : List ℕ} {n l p : ℕ} (well : ReadWell b n l p) where
         inside = omega (arith, well .size);
         few = omega (arith, well .ports, well .few-ports, ap (firstPort b) (well .nodes));
       }
+
+  -- the number of ports that was read is that of the definitions
+  pub well-at : ReadWell b n l (P b)
+  well-at = subst (ReadWell b n l) (sym (well .ports)) well
 
   pub has-port : {q : ℕ} → q < p → HasPort b n q
   has-port h =

@@ -1,14 +1,14 @@
 -- A section filled from the front by a function of the place: one place more, and what stands at a place.
 -- Rests on lists' Lists and Sections.
 use Prim.Native.Nat.{ℕ, zero, suc, _+_, _≤_, _<_}
-use native.Mathlib.Omega.{arith}
 use native.Mathlib.Numerals.{add-one}
-use mathlib.Core.Path.{_≡_, refl, sym, ap, _∙_}
+use native.Mathlib.Omega.{arith}
 use mathlib.Core.List.{List, [], _∷_, _++_, map}
-use lib.ListN.{length, getD, set}
+use mathlib.Core.Path.{_≡_, refl, sym, ap, _∙_}
+use lib.ListN.{length, getD, set, replicate}
 use lib.Seq.{sets}
-use Rattle.lists.specs.Lists.{from, upto}
 use Rattle.lists.proofs.Sections.{sets-snoc, getD-sets-in}
+use Rattle.lists.specs.Lists.{from, upto}
 
 module _ {A : Type 0} (f : ℕ → A) where
   map-from-snoc : (n k : ℕ) → map f (from n (suc k)) ≡ map f (from n k) ++ (f (n + k) ∷ [])
@@ -77,3 +77,9 @@ module _ {A : Type 0} (f : ℕ → A) where
     where
       none : (i : ℕ) → i ≡ 0 + i
       none i = omega arith
+
+-- zeros read as 0 everywhere
+pub getD-zeros : (n i : ℕ) → _≡_ {A = ℕ} (getD (replicate n 0) i 0) 0
+getD-zeros zero i = refl
+getD-zeros (suc n) zero = refl
+getD-zeros (suc n) (suc i) = getD-zeros n i

@@ -1,24 +1,24 @@
 -- The numbers of ports: one node more, and how large they grow.
 -- Rests on paper's Map and Fields.
 use Prim.Native.Nat.{ℕ, zero, suc, _+_, _-_, _*_, _≤_, _<_}
-use native.Mathlib.Omega.{arith}
-use native.Mathlib.Numerals.{add-one}
 use native.Mathlib.Decide.{decLt}
-use mathlib.Core.Path.{_≡_, refl, sym, ap, _∙_, subst}
+use native.Mathlib.Numerals.{add-one}
+use native.Mathlib.Omega.{arith}
 use mathlib.Core.List.{List, map}
-use mir.Syntax.{w8}
-use mir.Val.{Fits}
+use mathlib.Core.Path.{_≡_, refl, sym, ap, _∙_, subst}
+use lib.Dec.{ltb, leb}
 use lib.ListN.{getD, set}
 use lib.Seq.{sets}
-use lib.Dec.{ltb, leb}
+use mir.Syntax.{w8}
+use mir.Val.{Fits}
 use borrow.Author.Tests.{lt-ltb, le-ltb, le-leb, lt-leb}
 use Rattle.lists.specs.Found.{number}
 use Rattle.lists.specs.Lists.{upto}
 use Rattle.paper.specs.Map.{N, P, ins, outs, firstPort, portNode, input, output, isOutput}
 use Rattle.stepmap.specs.Formed.{HasPort, portOf}
+use Rattle.stepmap.proofs.Fields.{word-below}
 use Rattle.stepmap.proofs.ListsTests.{first-at}
 use Rattle.stepmap.proofs.ListsUpto.{sets-upto-next}
-use Rattle.stepmap.proofs.Fields.{word-below}
 
 pub first-port-zero : (b : List ℕ) → firstPort b 0 ≡ 0
 unfolding firstPort

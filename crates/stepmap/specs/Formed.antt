@@ -1,11 +1,11 @@
 -- What is known of a map's bytes where its records are read: how many nodes, links and ports, and that they stand within the bytes.
 -- Rests on paper's Map.
 use Prim.Native.Nat.{ℕ, _+_, _*_, _≤_, _<_}
-use mathlib.Core.Path.{_≡_}
 use mathlib.Core.Bool.{Bool, _&&_, cond}
 use mathlib.Core.List.{List}
-use lib.ListN.{length}
+use mathlib.Core.Path.{_≡_}
 use lib.Dec.{leb}
+use lib.ListN.{length}
 use Rattle.paper.specs.Map.{N, L, P, ins, outs, firstPort, input, output}
 
 -- n is the number of nodes, and link k's record stands within the bytes

@@ -1,15 +1,14 @@
 -- `stepmap::ports::first_ports` meets its contract: after v nodes the first v places hold their first ports.
 -- Rests on PortNumbers and ListsUpto.
-use Rattle.stepmap.proofs.PortNumbers.{first-port-next, first-rises, filled-next}
-use Rattle.stepmap.proofs.ListsUpto.{sets-upto-next}
-use Rattle.paper.specs.Map.{firstPort}
-use Rattle.lists.specs.Lists.{upto}
-use lib.Seq.{sets, length-sets}
-use lib.ListN.{length, length-set}
-use mathlib.Core.List.{map}
-use mathlib.Core.Path.{_≡_, refl, sym, ap, _∙_}
-use native.Mathlib.Omega.{arith}
 use Prim.Native.Nat.{_+_, _-_, _≤_}
+use native.Mathlib.Omega.{arith}
+use mathlib.Core.List.{map}
+use mathlib.Core.Path.{_≡_, refl, ap}
+use lib.ListN.{length, length-set}
+use lib.Seq.{sets, length-sets}
+use Rattle.lists.specs.Lists.{upto}
+use Rattle.paper.specs.Map.{firstPort}
+use Rattle.stepmap.proofs.PortNumbers.{first-port-next, first-rises, filled-next}
 use Rattle.stepmap.proofs.ports.first_ports.Statement.{statement}
 use Rattle.stepmap.proofs.ports.first_ports.Tie as tie
 

@@ -1,9 +1,9 @@
 -- `stepmap::ports::is_output` meets its contract: the outputs of the port's node start after its inputs.
 -- Rests on PortNumbers.
-use Rattle.stepmap.proofs.PortNumbers.{holder, ins-below, first-below, output-test}
-use Rattle.stepmap.proofs.Reading.{nodes-below}
 use native.Mathlib.Omega.{arith}
 use borrow.Author.Needs.{needs}
+use Rattle.stepmap.proofs.PortNumbers.{holder, ins-below, first-below, output-test}
+use Rattle.stepmap.proofs.Reading.{nodes-below}
 use Rattle.stepmap.proofs.ports.is_output.Statement.{statement}
 use Rattle.stepmap.proofs.ports.is_output.Tie as tie
 

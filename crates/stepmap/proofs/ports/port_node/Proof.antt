@@ -1,11 +1,11 @@
 -- `stepmap::ports::port_node` meets its contract: the port is not before node v, and the loop ends where it is before the next.
 -- Rests on PortNumbers.
-use Rattle.stepmap.proofs.Reading.{nodes-below}
-use Rattle.stepmap.proofs.PortNumbers.{first-port-zero, first-port-next, first-below, ins-below, outs-below, known-before, owner-node}
-use Rattle.paper.specs.Map.{P, firstPort}
-use mathlib.Core.Path.{_≡_, refl, sym, ap, _∙_}
-use native.Mathlib.Omega.{arith}
 use Prim.Native.Nat.{_+_, _-_, _≤_, _<_}
+use native.Mathlib.Omega.{arith}
+use mathlib.Core.Path.{_≡_}
+use Rattle.paper.specs.Map.{firstPort}
+use Rattle.stepmap.proofs.PortNumbers.{first-port-zero, first-port-next, first-below, ins-below, outs-below, known-before, owner-node}
+use Rattle.stepmap.proofs.Reading.{nodes-below}
 use Rattle.stepmap.proofs.ports.port_node.Statement.{statement}
 use Rattle.stepmap.proofs.ports.port_node.Tie as tie
 

@@ -1,9 +1,9 @@
 -- `stepmap::ports::port_offset` meets its contract: the offset counts from the node's inputs or from its outputs.
 -- Rests on PortNumbers.
-use Rattle.stepmap.proofs.PortNumbers.{holder, ins-below, first-below, offset-in, offset-out}
-use Rattle.stepmap.proofs.Reading.{nodes-below}
 use native.Mathlib.Omega.{arith}
 use borrow.Author.Needs.{needs}
+use Rattle.stepmap.proofs.PortNumbers.{holder, ins-below, first-below, offset-in, offset-out}
+use Rattle.stepmap.proofs.Reading.{nodes-below}
 use Rattle.stepmap.proofs.ports.port_offset.Statement.{statement}
 use Rattle.stepmap.proofs.ports.port_offset.Tie as tie
 

@@ -1,11 +1,10 @@
 -- `stepmap::read::is_mark` meets its contract: each return goes by the bytes compared so far.
 -- Rests on Reading.
 use mathlib.Core.Bool.{and-true}
-use Rattle.stepmap.proofs.Reading.{mark-test}
-use borrow.Author.Tests.{ne-eqb, eq-eqb}
 use mathlib.Core.Path.{sym, _∙_}
-use native.Mathlib.Omega.{arith}
 use borrow.Author.Needs.{needs}
+use borrow.Author.Tests.{ne-eqb, eq-eqb}
+use Rattle.stepmap.proofs.Reading.{mark-test}
 use Rattle.stepmap.proofs.read.is_mark.Statement.{statement}
 use Rattle.stepmap.proofs.read.is_mark.Tie as tie
 

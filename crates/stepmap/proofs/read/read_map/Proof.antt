@@ -1,10 +1,10 @@
 -- `stepmap::read::read_map` meets its contract: each return is refusal 1, one of refusal 2's limits, or the sizes.
 -- Rests on Reading and PortNumbers.
-use Rattle.stepmap.proofs.PortNumbers.{total}
-use borrow.Author.Tests.{not-true, not-false}
-use Rattle.stepmap.proofs.Reading.{formed-size, nodes-many, links-many, degree-large, ports-many, within, refused-1, refused-2, sized}
-use mathlib.Core.Path.{sym, _∙_}
 use native.Mathlib.Omega.{arith}
+use mathlib.Core.Path.{sym, _∙_}
+use borrow.Author.Tests.{not-true, not-false}
+use Rattle.stepmap.proofs.PortNumbers.{total}
+use Rattle.stepmap.proofs.Reading.{formed-size, nodes-many, links-many, degree-large, ports-many, within, refused-1, refused-2, sized}
 use Rattle.stepmap.proofs.read.read_map.Statement.{statement}
 use Rattle.stepmap.proofs.read.read_map.Tie as tie
 
