@@ -34,3 +34,7 @@ module _ (b : List ℕ) (n k : ℕ) (nodes : N b ≡ n) where
 pub word-below : (b : List ℕ) → ((i : ℕ) → Fits w8 (getD b i 0)) → (at : ℕ) → word b at < 65536
 unfolding word
 word-below b bytes at = omega (arith, bytes at, bytes (at + 1))
+
+pub in-below : (b : List ℕ) → ((i : ℕ) → Fits w8 (getD b i 0)) → (k : ℕ) → linkIn b k < 65536
+unfolding linkIn
+in-below b bytes k = word-below b bytes (linkAt b k + 6)

@@ -15,21 +15,23 @@ use Rattle.lists.specs.Found.{placed}
 use Rattle.lists.specs.Lists.{upto, any, one}
 use Rattle.paper.specs.Map.{linkTo, linkIn, firstPort, targetPort, missing, second}
 use Rattle.paper.specs.Refusals.{Ruling, passed, refusal, refuseLink}
-use Rattle.stepmap.specs.Marks.{Marked, LinkReady}
+use Rattle.stepmap.specs.Formed.{HasLink}
+use Rattle.stepmap.specs.Marks.{Firsts, Marked, LinkReady}
 use Rattle.stepmap.proofs.LinkFaults.{ends, target-sum, target-below, second-by-port}
 use Rattle.stepmap.proofs.ListsTests.{any-true, any-next-false, one-is, one-is-not}
 
--- the mark's place
-module _ {b firsts marks : List ℕ} {n k : ℕ} (ready : LinkReady b n k firsts marks) (here : missing b k ≡ false) where
+-- the port at which a link ends
+module _ {b firsts : List ℕ} {n k : ℕ} (link : HasLink b n k) (stand : Firsts b n firsts) (here : missing b k ≡ false) where
   pub node-below : linkTo b k < n
-  node-below = omega (arith, ends b k here .to, ready .link .nodes)
+  node-below = omega (arith, ends b k here .to, link .nodes)
 
-  pub place : {t f i : ℕ} → t ≡ linkTo b k → f ≡ getD firsts t 0 → i ≡ linkIn b k → f + i ≡ targetPort b k
-  place e g h =
-      omega (arith, target-sum b k, ap (λ (v : ℕ). getD firsts v 0) e, ready .firsts-stand .port (linkTo b k) node-below)
+  pub target : {t f i : ℕ} → t ≡ linkTo b k → f ≡ getD firsts t 0 → i ≡ linkIn b k → f + i ≡ targetPort b k
+  target e g h = omega (arith, target-sum b k, ap (λ (v : ℕ). getD firsts v 0) e, stand .port (linkTo b k) node-below)
 
-  pub place-below : targetPort b k < length marks
-  place-below = omega (arith, target-below b k (ends b k here), ready .room, ap (firstPort b) (ready .link .nodes))
+-- the mark of that port
+module _ {b firsts marks : List ℕ} {n k : ℕ} (ready : LinkReady b n k firsts marks) (here : missing b k ≡ false) where
+  pub mark-below : {t : ℕ} → t ≡ targetPort b k → t < length marks
+  mark-below e = omega (arith, target-below b k (ends b k here), ready .room, ap (firstPort b) (ready .link .nodes))
 
   -- what it says
   says : getD marks (targetPort b k) 0 ≡ one (second b k)

@@ -8,13 +8,13 @@ use super::access::num_outputs;
 use super::ports::first_ports;
 use words::field::wide;
 ghost use mathlib.Core.Path.{_≡_};
-ghost use mathlib.Core.Bool.{_||_, cond};
+ghost use mathlib.Core.Bool.{false, _||_, cond};
 ghost use lib.ListN.{length, set};
 ghost use Rattle.lists.specs.Found.{placed};
 ghost use Rattle.paper.specs.Map.{P, targetPort, missing, second};
 ghost use Rattle.paper.specs.Refusals.{refuseLink, rule45};
 ghost use Rattle.stepmap.specs.Formed.{HasLink, ReadWell};
-ghost use Rattle.stepmap.specs.Marks.{Blank, LinkReady};
+ghost use Rattle.stepmap.specs.Marks.{Blank, Firsts, LinkReady};
 ghost use Rattle.stepmap.specs.Said.{linksSaid};
 
 // What the check finds: no fault, refusal 4 at a link, or refusal 5 at a link.
@@ -56,6 +56,17 @@ fn is_missing(b: &[u8], n: usize, k: usize) -> bool
     link_in(b, n, k) >= num_inputs(b, to)
 }
 
+// The port at which link k ends.
+fn target_port(b: &[u8], n: usize, k: usize, firsts: &[u16]) -> usize
+    requires { ⌜ HasLink (now b) n k ⌝ }
+    requires { ⌜ Firsts (now b) n (now firsts) ⌝ }
+    requires { ⌜ missing (now b) k ≡ false ⌝ }
+    ensures { λ r. ⌜ r ≡ targetPort (now (b .entry)) k ⌝ }
+{
+    let to = link_to(b, n, k);
+    wide(firsts[to]) + link_in(b, n, k)
+}
+
 // Checks link k, where the links before it are sound and have set the marks of their inputs, and sets its own.
 fn check_link(b: &[u8], n: usize, k: usize, firsts: &[u16], marks: &mut [u16]) -> Links
     requires { ⌜ LinkReady (now b) n k (now firsts) (now marks) ⌝ }
@@ -68,8 +79,7 @@ fn check_link(b: &[u8], n: usize, k: usize, firsts: &[u16], marks: &mut [u16]) -
     if is_missing(b, n, k) {
         return Links::Missing(k);
     }
-    let to = link_to(b, n, k);
-    let target = wide(firsts[to]) + link_in(b, n, k);
+    let target = target_port(b, n, k, firsts);
     if marks[target] == 1 {
         return Links::Second(k);
     }

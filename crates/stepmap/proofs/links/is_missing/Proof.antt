@@ -18,7 +18,9 @@ num-outputs-requires : tie.Need-num-outputs-requires
 num-outputs-requires c κs = search needs
 
 returns-2 : tie.Need-returns-2
-returns-2 c = out-missing _ _ (c .before .before .before .before .link-from .ensures) (c .before .before .link-out .ensures) (c .before .num-outputs .ensures) (c .if2 .taken)
+returns-2 c =
+    let out = c .before .before in
+    out-missing _ _ (c .before .before .before .before .link-from .ensures) (out .link-out .ensures) (c .before .num-outputs .ensures) (c .if2 .taken)
 
 link-to-requires : tie.Need-link-to-requires
 link-to-requires c κs = search needs
@@ -34,8 +36,11 @@ num-inputs-requires c κs = search needs
 
 returns-4 : tie.Need-returns-4
 returns-4 c =
-    in-missing _ _ (c .before .before .before .before .before .before .before .before .before .before .pre .nodes) (c .before .before .before .before .before .before .before .before .link-from .ensures) (c .before .before .before .before .before .before .link-out .ensures) (c .before .before .before .before .before .num-outputs .ensures)
-    (c .before .before .before .link-to .ensures) (c .before .link-in .ensures) (c .num-inputs .ensures) (c .before .before .before .before .before .before .before .if1 .left) (c .before .before .before .before .if2 .left)
+    let to = c .before .before .before in
+    let out = to .before .before .before in
+    let from = out .before .before in
+    in-missing _ _ (from .before .before .pre .nodes) (from .link-from .ensures) (out .link-out .ensures) (to .before .before .num-outputs .ensures)
+    (to .link-to .ensures) (c .before .link-in .ensures) (c .num-inputs .ensures) (out .before .if1 .left) (to .before .if2 .left)
     (c .before .before .if3 .left)
 
 pub is-missing-spec : {M : Type 1} → statement M

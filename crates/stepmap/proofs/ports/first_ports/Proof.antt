@@ -62,8 +62,10 @@ loop-less c = omega arith
 
 loop-again : tie.Need-loop-again Inv-loop μ-loop
 loop-again c =
-    let here = filled-next (c .before .before .before .before .before .before .args .b .now) _ _ (c .before .before .before .loop .inv .1 .0) (c .before .before .before .loop .inv .1 .1) in
-    (omega arith, (omega (arith, first-port-next (c .before .before .before .before .before .before .args .b .now) (c .before .before .before .loop .v)), here))
+    let b = c .before .before .before .before .before .before .args .b .now in
+    let turn = c .before .before .before .loop in
+    let filled = filled-next b _ _ (turn .inv .1 .0) (turn .inv .1 .1) in
+    (omega arith, (omega (arith, first-port-next b (turn .v)), filled))
 
 cast-firsts-2 : tie.Need-cast-firsts-2 Inv-loop μ-loop
 cast-firsts-2 c =

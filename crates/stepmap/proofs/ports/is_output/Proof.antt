@@ -28,7 +28,8 @@ add-result c =
     let bytes = c .before .before .before .shared-slice-known .given in
     let v = c .before .before .port-node .result in
     let o = holder b _ _ v (c .before .before .before .before .pre) (c .before .before .port-node .ensures) in
-    omega (arith, o .known, c .before .before .before .before .pre .nodes, nodes-below b bytes, first-below b bytes v, ins-below b bytes v)
+    let few = nodes-below b bytes in
+    omega (arith, o .known, c .before .before .before .before .pre .nodes, first-below b bytes v, ins-below b bytes v)
 
 returns : tie.Need-returns
 returns c = output-test _ _ (c .before .before .port-node .ensures) (c .before .first-port .ensures) (c .num-inputs .ensures)

@@ -42,13 +42,15 @@ add-v c = omega arith
 
 num-inputs-requires-2 : tie.Need-num-inputs-requires-2 Inv-loop μ-loop
 num-inputs-requires-2 c κs =
-    let low : firstPort (c .before .before .before .before .before .args .b .now) (c .before .loop .v + 1) ≤ c .before .before .before .before .before .args .p = omega arith in
-    omega (arith, known-before _ _ _ _ (c .before .before .before .before .before .pre) low)
+    let b = c .before .before .before .before .before .args .b .now in
+    let low : firstPort b (c .before .loop .v + 1) ≤ c .before .before .before .before .before .args .p = omega arith in
+    omega (arith, known-before b _ _ _ (c .before .before .before .before .before .pre) low)
 
 num-outputs-requires-2 : tie.Need-num-outputs-requires-2 Inv-loop μ-loop
 num-outputs-requires-2 c κs =
-    let low : firstPort (c .before .before .before .before .before .before .args .b .now) (c .before .before .loop .v + 1) ≤ c .before .before .before .before .before .before .args .p = omega arith in
-    omega (arith, known-before _ _ _ _ (c .before .before .before .before .before .before .pre) low)
+    let b = c .before .before .before .before .before .before .args .b .now in
+    let low : firstPort b (c .before .before .loop .v + 1) ≤ c .before .before .before .before .before .before .args .p = omega arith in
+    omega (arith, known-before b _ _ _ (c .before .before .before .before .before .before .pre) low)
 
 add-next-2 : tie.Need-add-next-2 Inv-loop μ-loop
 add-next-2 c =
@@ -62,7 +64,8 @@ add-next-3 c =
     let b = c .before .before .before .before .before .before .before .args .b .now in
     let bytes = c .before .before .before .before .before .before .shared-slice-known .given in
     let v = c .before .before .before .loop .v in
-    omega (arith, ins-below b bytes (v + 1), outs-below b bytes (v + 1), first-below b bytes (v + 1), nodes-below b bytes, c .before .before .before .before .before .before .before .pre .nodes)
+    let few = nodes-below b bytes in
+    omega (arith, ins-below b bytes (v + 1), outs-below b bytes (v + 1), first-below b bytes (v + 1), c .before .before .before .before .before .before .before .pre .nodes)
 
 loop-less : tie.Need-loop-less Inv-loop μ-loop
 loop-less c = omega arith
@@ -77,7 +80,8 @@ loop-again c =
 returns : tie.Need-returns Inv-loop μ-loop
 returns c =
     let b = c .before .before .before .before .before .args .b .now in
-    owner-node b _ _ (record { known = omega (arith, c .before .before .before .before .before .pre .nodes); low = c .before .loop .inv .1 .0; high = omega arith })
+    let turn = c .before .loop in
+    owner-node b _ _ (record { known = omega (arith, c .before .before .before .before .before .pre .nodes); low = turn .inv .1 .0; high = omega arith })
 
 pub port-node-spec : {M : Type 1} → statement M
 port-node-spec =

@@ -28,7 +28,8 @@ add-outputs c =
     let bytes = c .before .before .before .shared-slice-known .given in
     let v = c .before .before .port-node .result in
     let o = holder b _ _ v (c .before .before .before .before .pre) (c .before .before .port-node .ensures) in
-    omega (arith, o .known, c .before .before .before .before .pre .nodes, nodes-below b bytes, first-below b bytes v, ins-below b bytes v)
+    let few = nodes-below b bytes in
+    omega (arith, o .known, c .before .before .before .before .pre .nodes, first-below b bytes v, ins-below b bytes v)
 
 sub-result : tie.Need-sub-result
 sub-result c =
@@ -37,11 +38,15 @@ sub-result c =
 
 returns : tie.Need-returns
 returns c =
-    let o = holder (c .before .before .before .before .before .args .b .now) _ _ _ (c .before .before .before .before .before .pre) (c .before .before .before .port-node .ensures) in
-    offset-in _ _ (c .before .before .before .port-node .ensures) (c .before .before .first-port .ensures) (c .before .num-inputs .ensures) (omega (arith, o .low, c .before .before .first-port .ensures)) (c .if1 .taken)
+    let node = c .before .before .before in
+    let o = holder (node .before .before .args .b .now) _ _ _ (node .before .before .pre) (node .port-node .ensures) in
+    let first = c .before .before .first-port .ensures in
+    offset-in _ _ (node .port-node .ensures) first (c .before .num-inputs .ensures) (omega (arith, o .low, first)) (c .if1 .taken)
 
 returns-2 : tie.Need-returns-2
-returns-2 c = offset-out _ _ (c .before .before .before .port-node .ensures) (c .before .before .first-port .ensures) (c .before .num-inputs .ensures) (c .if1 .left)
+returns-2 c =
+    let node = c .before .before .before .port-node in
+    offset-out _ _ (node .ensures) (c .before .before .first-port .ensures) (c .before .num-inputs .ensures) (c .if1 .left)
 
 pub port-offset-spec : {M : Type 1} → statement M
 port-offset-spec =
