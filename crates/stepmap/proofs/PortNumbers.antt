@@ -1,5 +1,5 @@
--- The numbers of ports: one node more, and how large they grow.
--- Rests on paper's Map and Fields.
+-- The numbers of ports: one node more, how large they grow, the node of a port, its direction and its offset.
+-- Rests on paper's Map, Fields and ListsTests.
 use Prim.Native.Nat.{ℕ, zero, suc, _+_, _-_, _*_, _≤_, _<_}
 use native.Mathlib.Decide.{decLt}
 use native.Mathlib.Numerals.{add-one}
@@ -50,20 +50,15 @@ module _ (b : List ℕ) (bytes : (i : ℕ) → Fits w8 (getD b i 0)) where
 
 -- a later node's ports come later
 first-rises-by : (b : List ℕ) (v k : ℕ) → firstPort b v ≤ firstPort b (v + k)
-first-rises-by b v zero = ap-le (none v)
+first-rises-by b v zero = omega (arith, ap (firstPort b) (none v))
   where
-    none : (v : ℕ) → v ≡ v + zero
+    none : (v : ℕ) → v + zero ≡ v
     none v = omega arith
-
-    ap-le : {w : ℕ} → v ≡ w → firstPort b v ≤ firstPort b w
-    ap-le e = omega (arith, ap (firstPort b) e)
-first-rises-by b v (suc k) = omega (arith, first-rises-by b v k, next (v + k), ap (firstPort b) (there v k))
+first-rises-by b v (suc k) =
+    omega (arith, first-rises-by b v k, first-port-next b (v + k), ap (firstPort b) (one-more v k))
   where
-    next : (w : ℕ) → firstPort b (w + 1) ≡ firstPort b w + (ins b w + outs b w)
-    next = first-port-next b
-
-    there : (v k : ℕ) → v + suc k ≡ v + k + 1
-    there v k = omega arith
+    one-more : (v k : ℕ) → v + suc k ≡ v + k + 1
+    one-more v k = omega arith
 
 pub first-rises : (b : List ℕ) (v w : ℕ) → v ≤ w → firstPort b v ≤ firstPort b w
 first-rises b v w h = omega (arith, first-rises-by b v (w - v), ap (firstPort b) (back h))
