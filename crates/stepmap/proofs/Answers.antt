@@ -1,16 +1,20 @@
--- Each answer's meaning tells its cases apart, and an answer with sizes says that refusals 1 and 2 let the map pass.
+-- Each answer's meaning tells its cases apart; sizes say that refusals 1 and 2 let the map pass, and `Sound` that 4 and 5 did.
 -- Rests on Said, Formed and Reading.
-use Prim.Native.Nat.{ℕ}
+use Prim.Native.Nat.{ℕ, _<_}
 use native.Mathlib.Omega.{arith}
-use mathlib.Core.Path.{_≡_, refl, sym, ap, _∙_}
-use mathlib.Core.Bool.{Bool, true, false}
+use mathlib.Core.Bool.{Bool, true, false, _||_}
 use mathlib.Core.List.{List}
-use Rattle.paper.specs.Map.{N, L, P, wellFormed, withinLimits}
-use Rattle.paper.specs.Refusals.{Answer, refused, answered}
+use mathlib.Core.Path.{_≡_, refl, sym, ap, _∙_}
+use Rattle.lists.specs.Found.{Found, absent, at}
+use Rattle.paper.specs.Map.{N, L, P, wellFormed, withinLimits, missing, second}
+use Rattle.paper.specs.Refusals.{Answer, refused, answered, passed, refuseLink, badLink, rule45}
+use Rattle.stepmap.specs.Formed.{ReadWell}
+use Rattle.stepmap.specs.Said.{mapSaid, linksSaid}
+use Rattle.stepmap.specs.declared.links.Links.{Links}
+use Rattle.stepmap.specs.declared.links.Links.the-variants.{Sound, Missing, Second}
 use Rattle.stepmap.specs.declared.read.StepMap.{StepMap}
 use Rattle.stepmap.specs.declared.read.StepMap.the-variants.{Malformed, TooLarge, Sized}
-use Rattle.stepmap.specs.Formed.{ReadWell}
-use Rattle.stepmap.specs.Said.{mapSaid}
+use Rattle.stepmap.proofs.ListsTests.{absent-all, or-false-both}
 use Rattle.stepmap.proofs.Reading.{formed-size, limits, ruled, refused-1, refused-2, sized}
 
 abbrev Sizes : Type 0
@@ -29,6 +33,17 @@ mapSaid-injective TooLarge (Sized n l p) e = cc
 mapSaid-injective (Sized n l p) Malformed e = cc
 mapSaid-injective (Sized n l p) TooLarge e = cc
 mapSaid-injective (Sized n l p) (Sized n' l' p') e = ap (λ (t : Sizes). Sized (t .0) (t .1) (t .2)) (same-sizes e)
+
+pub linksSaid-injective : (r s : Links) → linksSaid r ≡ linksSaid s → r ≡ s
+linksSaid-injective Sound Sound e = refl
+linksSaid-injective Sound (Missing j) e = cc
+linksSaid-injective Sound (Second j) e = cc
+linksSaid-injective (Missing k) Sound e = cc
+linksSaid-injective (Missing k) (Missing j) e = cc
+linksSaid-injective (Missing k) (Second j) e = cc
+linksSaid-injective (Second k) Sound e = cc
+linksSaid-injective (Second k) (Missing j) e = cc
+linksSaid-injective (Second k) (Second j) e = cc
 
 -- an answer is no refusal
 apart : {s : Sizes} {a : Answer Sizes} {n p : ℕ} → answered s ≡ a → refused n p ≡ a → ⊥
@@ -59,3 +74,13 @@ module _ (b : List ℕ) (n l p : ℕ) (said : mapSaid (Sized n l p) ≡ ruled b)
       go false h i g = absurd (apart said (refused-1 b h))
       go true h false g = absurd (apart said (refused-2 b h g))
       go true h true g = passing h g
+
+-- links that no refusal met are known, and no two end at one input
+pub links-fine : (b : List ℕ) → passed ≡ rule45 b → (k : ℕ) → k < L b → (missing b k ≡ false) × (second b k ≡ false)
+unfolding rule45 refuseLink badLink
+links-fine b e k lt =
+    or-false-both (missing b k) (second b k) (absent-all (λ j. missing b j || second b j) (L b) (none (badLink b) e) k lt)
+  where
+    none : (f : Found) → passed ≡ refuseLink b f → f ≡ absent
+    none absent q = refl
+    none (at j) q = cc

@@ -2,11 +2,11 @@
 -- Rests on paper's Map.
 use Prim.Native.Nat.{ℕ, _+_, _*_, _<_}
 use native.Mathlib.Omega.{arith}
+use mathlib.Core.List.{List}
+use mathlib.Core.Path.{_≡_, sym, ap}
+use lib.ListN.{getD}
 use mir.Syntax.{w8}
 use mir.Val.{Fits}
-use lib.ListN.{getD}
-use mathlib.Core.Path.{_≡_, sym, ap}
-use mathlib.Core.List.{List}
 use Rattle.paper.specs.Map.{N, word, linkAt, linkFrom, linkOut, linkTo, linkIn}
 
 module _ (b : List ℕ) (n k : ℕ) (nodes : N b ≡ n) where
@@ -34,3 +34,7 @@ module _ (b : List ℕ) (n k : ℕ) (nodes : N b ≡ n) where
 pub word-below : (b : List ℕ) → ((i : ℕ) → Fits w8 (getD b i 0)) → (at : ℕ) → word b at < 65536
 unfolding word
 word-below b bytes at = omega (arith, bytes at, bytes (at + 1))
+
+pub in-below : (b : List ℕ) → ((i : ℕ) → Fits w8 (getD b i 0)) → (k : ℕ) → linkIn b k < 65536
+unfolding linkIn
+in-below b bytes k = word-below b bytes (linkAt b k + 6)

@@ -1,23 +1,23 @@
 -- What each return of the reader needs: the mark byte by byte, a well-formed map test by test, the limits, and the answer.
 -- Rests on paper's Map and Refusals.
 use Prim.Native.Nat.{ℕ, suc, _+_, _*_, _≤_, _<_}
-use native.Mathlib.Omega.{arith}
 use native.Mathlib.Numerals.{add-one}
-use mathlib.Core.Path.{_≡_, refl, sym, ap, _∙_, subst}
-use mathlib.Core.Bool.{Bool, true, false, _&&_, and-false}
+use native.Mathlib.Omega.{arith}
+use mathlib.Core.Bool.{true, false, _&&_, and-false}
 use mathlib.Core.List.{List, [], _∷_}
+use mathlib.Core.Path.{_≡_, refl, sym, ap, _∙_, subst}
+use lib.Dec.{T, eqb}
 use lib.ListN.{length, getD, take, drop}
 use lib.Seq.{drop-cons}
-use lib.Dec.{T, eqb, leb}
-use borrow.Author.Tests.{eq-eqb, ne-eqb, le-leb, lt-leb}
 use mir.Syntax.{w8}
 use mir.Val.{Fits}
+use borrow.Author.Tests.{eq-eqb, ne-eqb, le-leb, lt-leb}
 use Rattle.lists.proofs.Tests.{Says, itself, _and_, eq-says, le-says}
 use Rattle.lists.specs.Lists.{same, all, upto}
 use Rattle.paper.specs.Map.{trailer, N, L, P, ins, outs, toNodes, toLinks, mark, PGT1, wellFormed, withinLimits}
+use Rattle.paper.specs.Refusals.{passed, refuse, rule1, rule2, decide, Answer, refused, answered, answer}
 use Rattle.stepmap.specs.Formed.{fewPorts}
 use Rattle.stepmap.proofs.Fields.{word-below}
-use Rattle.paper.specs.Refusals.{passed, refuse, rule1, rule2, decide, Answer, refused, answered, answer}
 
 -- the mark, byte by byte
 module _ (b : List ℕ) (at : ℕ) (fits : at + 4 ≤ length b) where

@@ -100,7 +100,9 @@ fn degrees_within(b: &[u8], n: usize) -> bool
 
 // Reads a map: refusal 1, then refusal 2, else its sizes.
 pub fn read_map(b: &[u8]) -> StepMap
-    ensures { λ r. ⌜ mapSaid r ≡ answer (decide (rule1 (now (b .entry)) ∷ rule2 (now (b .entry)) ∷ [])) (N (now (b .entry)), L (now (b .entry)), P (now (b .entry))) ⌝ }
+    ensures { λ r. ⌜ mapSaid r ≡
+        answer (decide (rule1 (now (b .entry)) ∷ rule2 (now (b .entry)) ∷ []))
+        (N (now (b .entry)), L (now (b .entry)), P (now (b .entry))) ⌝ }
 {
     if !well_formed(b) {
         return StepMap::Malformed;

@@ -1,8 +1,8 @@
 -- `stepmap::access::link_in` meets its contract: the field stands in link k's record.
 -- Rests on Fields.
-use Rattle.stepmap.proofs.Fields.{in-field}
 use mathlib.Core.Path.{_∙_}
 use borrow.Author.Needs.{needs}
+use Rattle.stepmap.proofs.Fields.{in-field}
 use Rattle.stepmap.proofs.access.link_in.Statement.{statement}
 use Rattle.stepmap.proofs.access.link_in.Tie as tie
 

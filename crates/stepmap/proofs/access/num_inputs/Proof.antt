@@ -1,7 +1,7 @@
 -- `stepmap::access::num_inputs` meets its contract: the field stands in node v's record.
 -- Rests on paper's `ins`.
-use Rattle.paper.specs.Map.{ins}
 use borrow.Author.Needs.{needs}
+use Rattle.paper.specs.Map.{ins}
 use Rattle.stepmap.proofs.access.num_inputs.Statement.{statement}
 use Rattle.stepmap.proofs.access.num_inputs.Tie as tie
 

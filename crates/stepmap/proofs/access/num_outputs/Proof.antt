@@ -1,7 +1,7 @@
 -- `stepmap::access::num_outputs` meets its contract: the field stands in node v's record.
 -- Rests on paper's `outs`.
-use Rattle.paper.specs.Map.{outs}
 use borrow.Author.Needs.{needs}
+use Rattle.paper.specs.Map.{outs}
 use Rattle.stepmap.proofs.access.num_outputs.Statement.{statement}
 use Rattle.stepmap.proofs.access.num_outputs.Tie as tie
 

@@ -1,10 +1,10 @@
 -- `stepmap::ports::first_port` meets its contract: the loop's sum is the first port of the node that it has come to.
 -- Rests on PortNumbers.
-use Rattle.stepmap.proofs.PortNumbers.{first-port-next, ins-below, outs-below, first-below}
-use Rattle.paper.specs.Map.{firstPort}
-use mathlib.Core.Path.{_≡_, refl, ap, _∙_}
+use Prim.Native.Nat.{_-_, _≤_}
 use native.Mathlib.Omega.{arith}
-use Prim.Native.Nat.{_+_, _*_, _-_, _≤_}
+use mathlib.Core.Path.{_≡_, refl, ap, _∙_}
+use Rattle.paper.specs.Map.{firstPort}
+use Rattle.stepmap.proofs.PortNumbers.{first-port-next, ins-below, outs-below, first-below}
 use Rattle.stepmap.proofs.ports.first_port.Statement.{statement}
 use Rattle.stepmap.proofs.ports.first_port.Tie as tie
 

@@ -1,14 +1,14 @@
 -- `stepmap::read::degrees_within` meets its contract: the nodes passed have few ports, and the first that has not decides.
 -- Rests on ListsTests and Reading.
-use Rattle.stepmap.proofs.Reading.{inputs-many, outputs-many, ports-few}
-use Rattle.stepmap.proofs.ListsTests.{all-true, all-false}
-use Rattle.stepmap.specs.Formed.{fewPorts}
-use Rattle.lists.specs.Lists.{all, upto}
-use borrow.Author.Count.{below-none, below-more}
+use Prim.Native.Nat.{ℕ, _-_, _≤_, _<_}
+use native.Mathlib.Omega.{arith}
 use mathlib.Core.Bool.{true}
 use mathlib.Core.Path.{_≡_, sym, ap, _∙_}
-use native.Mathlib.Omega.{arith}
-use Prim.Native.Nat.{ℕ, _-_, _≤_, _<_}
+use borrow.Author.Count.{below-none, below-more}
+use Rattle.lists.specs.Lists.{all, upto}
+use Rattle.stepmap.specs.Formed.{fewPorts}
+use Rattle.stepmap.proofs.ListsTests.{all-true, all-false}
+use Rattle.stepmap.proofs.Reading.{inputs-many, outputs-many, ports-few}
 use Rattle.stepmap.proofs.read.degrees_within.Statement.{statement}
 use Rattle.stepmap.proofs.read.degrees_within.Tie as tie
 

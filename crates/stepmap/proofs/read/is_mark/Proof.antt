@@ -1,11 +1,10 @@
 -- `stepmap::read::is_mark` meets its contract: each return goes by the bytes compared so far.
 -- Rests on Reading.
 use mathlib.Core.Bool.{and-true}
-use Rattle.stepmap.proofs.Reading.{mark-test}
-use borrow.Author.Tests.{ne-eqb, eq-eqb}
 use mathlib.Core.Path.{sym, _∙_}
-use native.Mathlib.Omega.{arith}
 use borrow.Author.Needs.{needs}
+use borrow.Author.Tests.{ne-eqb, eq-eqb}
+use Rattle.stepmap.proofs.Reading.{mark-test}
 use Rattle.stepmap.proofs.read.is_mark.Statement.{statement}
 use Rattle.stepmap.proofs.read.is_mark.Tie as tie
 
@@ -28,7 +27,9 @@ element-copy-out-if2 : tie.Need-element-copy-out-if2
 element-copy-out-if2 c = search needs
 
 returns-2 : tie.Need-returns-2
-returns-2 c = sym (mark-test _ _ (c .before .before .before .before .before .before .before .pre) ∙ rw (eq-eqb _ _ (c .before .before .before .if1 .left), ne-eqb _ _ (c .if2 .taken)))
+returns-2 c =
+    let two = c .before .before .before in
+    sym (mark-test _ _ (two .before .before .before .before .pre) ∙ rw (eq-eqb _ _ (two .if1 .left), ne-eqb _ _ (c .if2 .taken)))
 
 add-if3 : tie.Need-add-if3
 add-if3 c = search needs
@@ -41,9 +42,9 @@ element-copy-out-if3 c = search needs
 
 returns-3 : tie.Need-returns-3
 returns-3 c =
-    sym
-    (mark-test _ _ (c .before .before .before .before .before .before .before .before .before .before .pre)
-    ∙ rw (eq-eqb _ _ (c .before .before .before .before .before .before .if1 .left), eq-eqb _ _ (c .before .before .before .if2 .left), ne-eqb _ _ (c .if3 .taken)))
+    let three = c .before .before .before in
+    let two = three .before .before .before in
+    sym (mark-test _ _ (two .before .before .before .before .pre) ∙ rw (eq-eqb _ _ (two .if1 .left), eq-eqb _ _ (three .if2 .left), ne-eqb _ _ (c .if3 .taken)))
 
 add-result : tie.Need-add-result
 add-result c = search needs
@@ -56,9 +57,10 @@ element-copy-out-result c = search needs
 
 returns-4 : tie.Need-returns-4
 returns-4 c =
-    sym
-    (mark-test _ _ (c .before .before .before .before .before .before .before .before .before .before .before .before .pre)
-    ∙ rw (eq-eqb _ _ (c .before .before .before .before .before .before .before .before .if1 .left), eq-eqb _ _ (c .before .before .before .before .before .if2 .left), eq-eqb _ _ (c .before .before .if3 .left)) (and-true _))
+    let four = c .before .before in
+    let three = four .before .before .before in
+    let two = three .before .before .before in
+    sym (mark-test _ _ (two .before .before .before .before .pre) ∙ rw (eq-eqb _ _ (two .if1 .left), eq-eqb _ _ (three .if2 .left), eq-eqb _ _ (four .if3 .left)) (and-true _))
 
 pub is-mark-spec : {M : Type 1} → statement M
 is-mark-spec =

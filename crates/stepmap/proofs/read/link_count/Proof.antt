@@ -1,7 +1,7 @@
 -- `stepmap::read::link_count` meets its contract: the field stands in the trailer.
 -- Rests on paper's `L`.
-use Rattle.paper.specs.Map.{trailer, L}
 use borrow.Author.Needs.{needs}
+use Rattle.paper.specs.Map.{trailer, L}
 use Rattle.stepmap.proofs.read.link_count.Statement.{statement}
 use Rattle.stepmap.proofs.read.link_count.Tie as tie
 

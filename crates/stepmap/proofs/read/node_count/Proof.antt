@@ -1,7 +1,7 @@
 -- `stepmap::read::node_count` meets its contract: the field stands in the trailer.
 -- Rests on paper's `N`.
-use Rattle.paper.specs.Map.{trailer, N}
 use borrow.Author.Needs.{needs}
+use Rattle.paper.specs.Map.{trailer, N}
 use Rattle.stepmap.proofs.read.node_count.Statement.{statement}
 use Rattle.stepmap.proofs.read.node_count.Tie as tie
 

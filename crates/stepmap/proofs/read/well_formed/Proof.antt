@@ -1,10 +1,10 @@
 -- `stepmap::read::well_formed` meets its contract: each return is one of refusal 1's tests.
 -- Rests on Reading.
-use Rattle.stepmap.proofs.Reading.{nodes-far, links-far, long, marked, nodes-below, links-below}
-use Rattle.paper.specs.Map.{trailer, toNodes, toLinks, mark}
-use mathlib.Core.Path.{_≡_, sym, _∙_}
 use native.Mathlib.Omega.{arith}
+use mathlib.Core.Path.{sym, _∙_}
 use borrow.Author.Needs.{needs}
+use Rattle.paper.specs.Map.{trailer, toNodes, toLinks, mark}
+use Rattle.stepmap.proofs.Reading.{nodes-far, links-far, long, marked, nodes-below, links-below}
 use Rattle.stepmap.proofs.read.well_formed.Statement.{statement}
 use Rattle.stepmap.proofs.read.well_formed.Tie as tie
 
