@@ -32,6 +32,15 @@ one-eq-back a b h = go (ℕ-discrete a b)
     go (yes e) = e
     go (no ne) = absurd (omega (arith, one-ne a b ne))
 
+-- a test as a number, and back
+pub one-is : (t : Bool) → one t ≡ 1 → t ≡ true
+one-is true e = refl
+one-is false e = cc
+
+pub one-is-not : (t : Bool) → (one t ≡ 1 → ⊥) → t ≡ false
+one-is-not true h = absurd (h refl)
+one-is-not false h = refl
+
 pub eqb-sym : (a b : ℕ) → eqb a b ≡ eqb b a
 eqb-sym a b = go (ℕ-discrete a b)
   where

@@ -1,7 +1,8 @@
 -- What `first` finds: a number that passes, none before it, and one wherever there is one.
 -- Rests on nothing but its definition.
-use Prim.Native.Nat.{ℕ, zero, suc, _≤_, _<_}
+use Prim.Native.Nat.{ℕ, zero, suc, _+_, _≤_, _<_}
 use native.Mathlib.Decide.{ℕ-discrete, decLt}
+use native.Mathlib.Numerals.{add-one}
 use native.Mathlib.Omega.{arith}
 use mathlib.Core.Path.{_≡_, refl, sym, ap, ap₂, _∙_, subst}
 use mathlib.Core.Bool.{Bool, true, false, true≢false}
@@ -79,3 +80,8 @@ pub first-same : (f g : ℕ → Bool) (n : ℕ) → ((k : ℕ) → k < n → f k
 first-same f g zero h = refl
 first-same f g (suc n) h =
     ap₂ (λ (x : Found) (t : Bool). orElse x (placed t n)) (first-same f g n (λ k l. h k (omega arith))) (h n (omega arith))
+
+-- one number more, and still none
+pub first-next : (f : ℕ → Bool) (n : ℕ) → first f n ≡ absent → f n ≡ false → first f (n + 1) ≡ absent
+first-next f n e h =
+    ap (first f) (add-one n) ∙ ap (λ (o : Found). orElse o (placed (f n) n)) e ∙ ap (λ (t : Bool). placed t n) h

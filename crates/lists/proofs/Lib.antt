@@ -6,3 +6,4 @@ pub mod Compare
 pub mod Places
 pub mod Extends
 pub mod First
+pub mod AllAny

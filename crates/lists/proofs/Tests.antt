@@ -1,10 +1,11 @@
 -- What a computed test says: each kind of test is joined once to its proposition.
 -- Rests on the kit's tests on numbers (lib.Dec).
 use Prim.Native.Nat.{ℕ, zero, suc, _≤_, _<_, _+_}
-use native.Mathlib.Decide.{ℕ-discrete}
+use native.Mathlib.Decide.{ℕ-discrete, decLt}
 use native.Mathlib.Omega.{arith}
-use mathlib.Core.Path.{_≡_, sym, subst}
-use mathlib.Core.Bool.{Bool, true, false, _&&_}
+use borrow.Author.Tests.{lt-ltb, le-ltb, lt-leb, le-leb}
+use mathlib.Core.Path.{_≡_, refl, sym, ap, _∙_, subst}
+use mathlib.Core.Bool.{Bool, true, false, not, _&&_, _||_}
 use mathlib.Core.List.{List, [], _∷_}
 use lib.Dec.{T, eqb, ltb, leb, eqb→eq, eqb-refl, ltb→lt, lt→ltb, leb→le, le→leb}
 use Rattle.lists.specs.Lists.{from, upto, all, rising, Rising}
@@ -72,3 +73,16 @@ pub rising-says : (xs : List ℕ) → Says (rising xs) (Rising xs)
 rising-says [] = itself true
 rising-says (x ∷ []) = itself true
 rising-says (x ∷ (y ∷ ys)) = lt-says x y and rising-says (y ∷ ys)
+
+-- ---- two tests in other words
+
+pub not-ltb : (a b : ℕ) → not (ltb a b) ≡ leb b a
+not-ltb a b = split (decLt a b)
+  where
+    split : Dec (a < b) → not (ltb a b) ≡ leb b a
+    split (yes lt) = ap not (lt-ltb a b lt) ∙ sym (lt-leb b a lt)
+    split (no ge) = ap not (le-ltb a b (omega arith)) ∙ sym (le-leb b a (omega arith))
+
+pub or-false-both : (a b : Bool) → (a || b) ≡ false → (a ≡ false) × (b ≡ false)
+or-false-both true b e = (e, cc)
+or-false-both false b e = (refl, e)

@@ -2,13 +2,15 @@
 -- Rests on lib.Seq (lists equal by their elements).
 use Prim.Native.Nat.{ℕ, zero, suc, _+_, _≤_, _<_}
 use native.Mathlib.Decide.{ℕ-discrete}
+use native.Mathlib.Numerals.{add-one}
 use native.Mathlib.Omega.{arith}
 use mathlib.Core.Path.{_≡_, refl, sym, ap, ap₂, _∙_}
 use mathlib.Core.Logic.{_≢_}
 use mathlib.Core.Bool.{Bool, true, false, cond}
 use mathlib.Core.List.{List, [], _∷_, _++_, map, flatMap, append-assoc, map-append}
 use lib.ListN.{replicate, length, getD, set, length-set, length-map, length-append, List·getD-map}
-use lib.Seq.{ext-getD, getD-set-same, getD-set-other}
+use lib.Seq.{sets, ext-getD, getD-set-same, getD-set-other}
+use Rattle.lists.proofs.Sections.{sets-snoc, getD-sets-in}
 use Rattle.lists.specs.Lists.{from, upto, keep, count, one}
 
 -- where a loop that counts up to l is left, what stands after k turns stands after l
@@ -165,6 +167,35 @@ module _ {A : Type 0} where
           ∙ sym (getD-table g n j v lt)
       at j lt (no ne) =
           getD-set-other (map f (upto n)) i j v v ne ∙ getD-table f n j v lt ∙ sym (there j lt ne) ∙ sym (getD-table g n j v lt)
+
+-- ---- a section filled from the front by a function of the place
+
+module _ {A : Type 0} (f : ℕ → A) where
+  -- one place more
+  pub sets-upto-next : (l : List A) (n : ℕ) → set (sets l 0 (map f (upto n))) n (f n) ≡ sets l 0 (map f (upto (n + 1)))
+  sets-upto-next l n =
+      sym
+      (ap (sets l 0) ((ap (λ (m : ℕ). map f (upto m)) (add-one n) ∙ table-suc f n)) ∙ sets-snoc l 0 (map f (upto n)) (f n)
+      ∙ ap (λ (i : ℕ). set (sets l 0 (map f (upto n))) i (f n)) (length-so n))
+    where
+      length-so : (n : ℕ) → 0 + length (map f (upto n)) ≡ n
+      length-so n = omega (arith, length-table f n)
+
+  -- what stands at a place
+  pub getD-sets-upto : (l : List A) (n i : ℕ) (d : A) → i < n → n ≤ length l → getD (sets l 0 (map f (upto n))) i d ≡ f i
+  getD-sets-upto l n i d h fits =
+      ap (λ (k : ℕ). getD (sets l 0 (map f (upto n))) k d) (none i)
+      ∙ getD-sets-in l 0 (map f (upto n)) i d (omega (arith, length-table f n)) (omega (arith, length-table f n))
+      ∙ getD-table f n i d h
+    where
+      none : (i : ℕ) → i ≡ 0 + i
+      none i = omega arith
+
+-- zeros read as 0 everywhere
+pub getD-zeros : (n i : ℕ) → _≡_ {A = ℕ} (getD (replicate n 0) i 0) 0
+getD-zeros zero i = refl
+getD-zeros (suc n) zero = refl
+getD-zeros (suc n) (suc i) = getD-zeros n i
 
 -- ---- lists made port by port
 

@@ -14,7 +14,8 @@ use Rattle.stepmap.specs.declared.links.Links.{Links}
 use Rattle.stepmap.specs.declared.links.Links.the-variants.{Sound, Missing, Second}
 use Rattle.stepmap.specs.declared.read.StepMap.{StepMap}
 use Rattle.stepmap.specs.declared.read.StepMap.the-variants.{Malformed, TooLarge, Sized}
-use Rattle.stepmap.proofs.ListsTests.{absent-all, or-false-both}
+use Rattle.lists.proofs.First.{first-absent}
+use Rattle.lists.proofs.Tests.{or-false-both}
 use Rattle.stepmap.proofs.Reading.{formed-size, limits, ruled, refused-1, refused-2, sized}
 
 abbrev Sizes : Type 0
@@ -79,7 +80,7 @@ module _ (b : List ℕ) (n l p : ℕ) (said : mapSaid (Sized n l p) ≡ ruled b)
 pub links-fine : (b : List ℕ) → passed ≡ rule45 b → (k : ℕ) → k < L b → (missing b k ≡ false) × (second b k ≡ false)
 unfolding rule45 refuseLink badLink
 links-fine b e k lt =
-    or-false-both (missing b k) (second b k) (absent-all (λ j. missing b j || second b j) (L b) (none (badLink b) e) k lt)
+    or-false-both (missing b k) (second b k) (first-absent (λ j. missing b j || second b j) (L b) (none (badLink b) e) k lt)
   where
     none : (f : Found) → passed ≡ refuseLink b f → f ≡ absent
     none absent q = refl

@@ -1,5 +1,3 @@
-pub mod ListsTests
-pub mod ListsUpto
 pub mod Fields
 pub mod PortNumbers
 pub mod LinkFaults

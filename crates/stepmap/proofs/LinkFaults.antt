@@ -1,5 +1,5 @@
 -- The faults of a link: what the test for refusal 4 says, and refusal 5 by the ports at which links end.
--- Rests on paper's Map and Refusals, PortNumbers and ListsTests.
+-- Rests on paper's Map and Refusals, PortNumbers and lists.AllAny.
 use Prim.Native.Nat.{ℕ, _+_, _≤_, _<_}
 use native.Mathlib.Decide.{ℕ-discrete, decLt}
 use native.Mathlib.Omega.{arith}
@@ -11,7 +11,8 @@ use borrow.Author.Tests.{lt-ltb, le-ltb, eq-eqb, ne-eqb, not-false}
 use Rattle.lists.proofs.Tests.{Says, _and_, lt-says}
 use Rattle.lists.specs.Lists.{upto, any}
 use Rattle.paper.specs.Map.{N, ins, outs, linkFrom, linkOut, linkTo, linkIn, firstPort, input, targetPort, missing, second}
-use Rattle.stepmap.proofs.ListsTests.{any-same, not-ltb}
+use Rattle.lists.proofs.AllAny.{any-same}
+use Rattle.lists.proofs.Tests.{not-ltb}
 use Rattle.stepmap.proofs.PortNumbers.{first-port-next, first-rises}
 
 -- ---- refusal 4, test by test

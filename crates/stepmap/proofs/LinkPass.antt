@@ -20,8 +20,9 @@ use Rattle.stepmap.specs.declared.links.Links.{Links}
 use Rattle.stepmap.specs.declared.links.Links.the-variants.{Sound}
 use Rattle.stepmap.proofs.Answers.{linksSaid-injective}
 use Rattle.stepmap.proofs.Known.{has-link, numbered}
-use Rattle.stepmap.proofs.ListsTests.{first-at, first-next, absent-all, or-false-both}
-use Rattle.stepmap.proofs.ListsUpto.{getD-sets-upto}
+use Rattle.lists.proofs.First.{first-is, first-next, first-absent}
+use Rattle.lists.proofs.Tests.{or-false-both}
+use Rattle.lists.proofs.Upto.{getD-sets-upto}
 use Rattle.stepmap.proofs.Marking.{bad, mark-below, marked-next}
 
 -- what holds after k of l links
@@ -72,7 +73,7 @@ at-bad : (b : List ℕ) (k : ℕ) → first (bad b) k ≡ absent → k < L b →
 unfolding rule45 badLink
 at-bad b k none lt h =
     ap (λ (t : Bool). refuseLink b (placed t k)) h
-    ∙ ap (refuseLink b) (sym (first-at (bad b) (L b) k lt (absent-all (bad b) k none) h))
+    ∙ ap (refuseLink b) (sym (first-is (bad b) (L b) k (record { known = lt; passes = h; fail = first-absent (bad b) k none })))
 
 module _ {b firsts marks : List ℕ} {n l k : ℕ} (well : ReadWell b n l (P b)) (lt : k < l) (stand : Firsts b n firsts)
     (pass : Passed b l k marks) where

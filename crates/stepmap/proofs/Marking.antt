@@ -18,7 +18,8 @@ use Rattle.paper.specs.Refusals.{Ruling, passed, refusal, refuseLink}
 use Rattle.stepmap.specs.Formed.{HasLink}
 use Rattle.stepmap.specs.Marks.{Firsts, Marked, LinkReady}
 use Rattle.stepmap.proofs.LinkFaults.{ends, target-sum, target-below, second-by-port}
-use Rattle.stepmap.proofs.ListsTests.{any-true, any-next-false, one-is, one-is-not}
+use Rattle.lists.proofs.AllAny.{any-true, any-next-false}
+use Rattle.lists.proofs.Count.{one-is, one-is-not}
 
 -- the port at which a link ends
 module _ {b firsts : List ℕ} {n k : ℕ} (link : HasLink b n k) (stand : Firsts b n firsts) (here : missing b k ≡ false) where

@@ -1,5 +1,5 @@
 -- The numbers of ports: one node more, how large they grow, the node of a port, its direction and its offset.
--- Rests on paper's Map, Fields and ListsTests.
+-- Rests on paper's Map, Fields and lists.First.
 use Prim.Native.Nat.{ℕ, zero, suc, _+_, _-_, _*_, _≤_, _<_}
 use native.Mathlib.Decide.{decLt}
 use native.Mathlib.Numerals.{add-one}
@@ -17,8 +17,8 @@ use Rattle.lists.specs.Lists.{upto}
 use Rattle.paper.specs.Map.{N, P, ins, outs, firstPort, portNode, input, output, isOutput}
 use Rattle.stepmap.specs.Formed.{HasPort, portOf}
 use Rattle.stepmap.proofs.Fields.{word-below}
-use Rattle.stepmap.proofs.ListsTests.{first-at}
-use Rattle.stepmap.proofs.ListsUpto.{sets-upto-next}
+use Rattle.lists.proofs.First.{first-is}
+use Rattle.lists.proofs.Upto.{sets-upto-next}
 
 pub first-port-zero : (b : List ℕ) → firstPort b 0 ≡ 0
 unfolding firstPort
@@ -89,9 +89,12 @@ unfolding portNode
 owner-node b p v o =
     sym
     (ap number
-    (first-at (λ u. ltb p (firstPort b (suc u))) (N b) v (o .known)
-    (λ u before. le-ltb p (firstPort b (suc u)) (omega (arith, first-rises b (suc u) v before, o .low)))
-    (lt-ltb p (firstPort b (suc v)) (omega (arith, o .high, ap (firstPort b) (add-one v))))))
+    (first-is (λ u. ltb p (firstPort b (suc u))) (N b) v
+    (record {
+      known = o .known;
+      passes = lt-ltb p (firstPort b (suc v)) (omega (arith, o .high, ap (firstPort b) (add-one v)));
+      fail = λ u before. le-ltb p (firstPort b (suc u)) (omega (arith, first-rises b (suc u) v before, o .low));
+    })))
 
 -- every port has a node
 pub record Owned (b : List ℕ) (n p : ℕ) : Type 0 where

@@ -10,7 +10,7 @@ use borrow.Author.Needs.{needs}
 use Rattle.lists.specs.Found.{absent, first}
 use Rattle.stepmap.specs.Marks.{Marked}
 use Rattle.stepmap.proofs.Known.{numbered}
-use Rattle.stepmap.proofs.ListsTests.{first-next}
+use Rattle.lists.proofs.First.{first-next}
 use Rattle.stepmap.proofs.Marking.{bad}
 use Rattle.stepmap.proofs.links.Links.{the-type}
 use Rattle.stepmap.proofs.links.check_links.Statement.{statement}

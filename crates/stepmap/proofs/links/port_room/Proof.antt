@@ -1,7 +1,7 @@
 -- `stepmap::links::port_room` meets its contract: zeros read as 0.
--- Rests on ListsUpto.
+-- Rests on lists.Upto.
 use mathlib.Core.Path.{refl}
-use Rattle.stepmap.proofs.ListsUpto.{getD-zeros}
+use Rattle.lists.proofs.Upto.{getD-zeros}
 use Rattle.stepmap.proofs.links.port_room.Statement.{statement}
 use Rattle.stepmap.proofs.links.port_room.Tie as tie
 

@@ -1,5 +1,5 @@
 -- `stepmap::ports::first_ports` meets its contract: after v nodes the first v places hold their first ports.
--- Rests on PortNumbers and ListsUpto.
+-- Rests on PortNumbers and lists.Upto.
 use Prim.Native.Nat.{_+_, _-_, _≤_}
 use native.Mathlib.Omega.{arith}
 use mathlib.Core.List.{map}

@@ -1,5 +1,5 @@
 -- `stepmap::read::degrees_within` meets its contract: the nodes passed have few ports, and the first that has not decides.
--- Rests on ListsTests and Reading.
+-- Rests on lists.AllAny and Reading.
 use Prim.Native.Nat.{ℕ, _-_, _≤_, _<_}
 use native.Mathlib.Omega.{arith}
 use mathlib.Core.Bool.{true}
@@ -7,7 +7,7 @@ use mathlib.Core.Path.{_≡_, sym, ap, _∙_}
 use borrow.Author.Count.{below-none, below-more}
 use Rattle.lists.specs.Lists.{all, upto}
 use Rattle.stepmap.specs.Formed.{fewPorts}
-use Rattle.stepmap.proofs.ListsTests.{all-true, all-false}
+use Rattle.lists.proofs.AllAny.{all-true, all-false}
 use Rattle.stepmap.proofs.Reading.{inputs-many, outputs-many, ports-few}
 use Rattle.stepmap.proofs.read.degrees_within.Statement.{statement}
 use Rattle.stepmap.proofs.read.degrees_within.Tie as tie

@@ -1,15 +1,12 @@
--- What a test says of all numbers below a bound, of any of them, and of the first: the laws that a search by a loop needs.
--- Rests on lists' Lists and Found.
+-- What a test says of all numbers below a bound and of any of them, as values of the test: the laws that a search by a loop needs.
+-- Rests on nothing but the definitions.
 use Prim.Native.Nat.{ℕ, zero, suc, _+_, _≤_, _<_}
-use native.Mathlib.Decide.{ℕ-discrete, decLt}
+use native.Mathlib.Decide.{ℕ-discrete}
 use native.Mathlib.Numerals.{add-one}
 use native.Mathlib.Omega.{arith}
-use mathlib.Core.Bool.{Bool, true, false, not, _&&_, _||_, and-false, or-true, or-false, or-assoc}
+use mathlib.Core.Bool.{Bool, true, false, _&&_, _||_, and-false, or-true, or-false, or-assoc}
 use mathlib.Core.Path.{_≡_, refl, sym, ap, _∙_}
-use lib.Dec.{ltb, leb}
-use borrow.Author.Tests.{lt-ltb, le-ltb, lt-leb, le-leb}
-use Rattle.lists.specs.Found.{Found, absent, at, orElse, placed, first}
-use Rattle.lists.specs.Lists.{from, upto, all, any, one}
+use Rattle.lists.specs.Lists.{from, upto, all, any}
 
 module _ (f : ℕ → Bool) where
   -- all pass
@@ -84,46 +81,6 @@ module _ (f : ℕ → Bool) where
       none : (n : ℕ) → 0 + n ≡ n
       none n = omega arith
 
-  -- the first that passes
-  pub first-absent : (n : ℕ) → ((i : ℕ) → i < n → f i ≡ false) → first f n ≡ absent
-  first-absent zero h = refl
-  first-absent (suc n) h =
-      ap (λ (o : Found). orElse o (placed (f n) n)) (first-absent n (λ i lt. h i (omega arith)))
-      ∙ ap (λ (t : Bool). placed t n) (h n (omega arith))
-
-  pub first-at : (n k : ℕ) → k < n → ((i : ℕ) → i < k → f i ≡ false) → f k ≡ true → first f n ≡ at k
-  first-at zero k lt before here = absurd (nothing lt)
-    where
-      nothing : {k : ℕ} → k < zero → ⊥
-      nothing lt = omega arith
-  first-at (suc n) k lt before here = split (ℕ-discrete k n) (λ sooner. first-at n k sooner before here)
-    where
-      split : Dec (k ≡ n) → (k < n → first f n ≡ at k) → first f (suc n) ≡ at k
-      split (yes last) rest =
-          ap (λ (m : ℕ). first f (suc m)) (sym last)
-          ∙ ap (λ (o : Found). orElse o (placed (f k) k)) (first-absent k before)
-          ∙ ap (λ (t : Bool). placed t k) here
-      split (no ne) rest = ap (λ (o : Found). orElse o (placed (f n) n)) (rest (omega arith))
-
-  pub first-next : (n : ℕ) → first f n ≡ absent → f n ≡ false → first f (n + 1) ≡ absent
-  first-next n e h =
-      ap (first f) (add-one n) ∙ ap (λ (o : Found). orElse o (placed (f n) n)) e ∙ ap (λ (t : Bool). placed t n) h
-
-  -- none was found: none passes
-  pub absent-all : (n : ℕ) → first f n ≡ absent → (i : ℕ) → i < n → f i ≡ false
-  absent-all zero e i lt = absurd (nothing lt)
-    where
-      nothing : {i : ℕ} → i < zero → ⊥
-      nothing lt = omega arith
-  absent-all (suc n) e i lt = split (first f n) (f n) e refl refl (absent-all n) (ℕ-discrete i n)
-    where
-      split : (o : Found) (t : Bool) → orElse o (placed t n) ≡ absent → first f n ≡ o → f n ≡ t
-          → (first f n ≡ absent → (i : ℕ) → i < n → f i ≡ false) → Dec (i ≡ n) → f i ≡ false
-      split absent false e here last rest (yes q) = ap f q ∙ last
-      split absent false e here last rest (no ne) = rest here i (omega arith)
-      split absent true e here last rest d = cc
-      split (at k) t e here last rest d = cc
-
 -- tests that agree at each number
 module _ (f g : ℕ → Bool) where
   any-same-from : (n k : ℕ) → ((i : ℕ) → n ≤ i → i < n + k → f i ≡ g i) → any f (from n k) ≡ any g (from n k)
@@ -134,25 +91,3 @@ module _ (f g : ℕ → Bool) where
 
   pub any-same : (n : ℕ) → ((i : ℕ) → i < n → f i ≡ g i) → any f (upto n) ≡ any g (upto n)
   any-same n h = any-same-from 0 n (λ i low high. h i (omega arith))
-
--- a test as a number
-pub one-is : (t : Bool) → one t ≡ 1 → t ≡ true
-one-is true e = refl
-one-is false e = cc
-
-pub one-is-not : (t : Bool) → (one t ≡ 1 → ⊥) → t ≡ false
-one-is-not true h = absurd (h refl)
-one-is-not false h = refl
-
--- a test the other way round
-pub not-ltb : (a b : ℕ) → not (ltb a b) ≡ leb b a
-not-ltb a b = split (decLt a b)
-  where
-    split : Dec (a < b) → not (ltb a b) ≡ leb b a
-    split (yes lt) = ap not (lt-ltb a b lt) ∙ sym (lt-leb b a lt)
-    split (no ge) = ap not (le-ltb a b (omega arith)) ∙ sym (le-leb b a (omega arith))
-
--- neither passes
-pub or-false-both : (a b : Bool) → (a || b) ≡ false → (a ≡ false) × (b ≡ false)
-or-false-both true b e = (e, cc)
-or-false-both false b e = (refl, e)
