@@ -29,7 +29,7 @@ places-of ks q =
     ∙ ap (times q) (table-of ks 0)
 
 -- all links at ports below q: as many as keys below q
-before-port : (ks : List ℕ) (q : ℕ) → length (flatMap (placesOf ks) (upto q)) ≡ below ks q
+pub before-port : (ks : List ℕ) (q : ℕ) → length (flatMap (placesOf ks) (upto q)) ≡ below ks q
 unfolding flatMap
 before-port ks zero = sym (below-zero ks)
 before-port ks (suc q) =

@@ -5,10 +5,12 @@ use native.Mathlib.Nat.{add-zero}
 use native.Mathlib.Omega.{arith}
 use mathlib.Core.Path.{_≡_, refl, sym, ap, _∙_, subst}
 use mathlib.Core.Logic.{_⊎_, inl, inr, _≢_}
-use mathlib.Core.List.{List, [], _∷_, _++_}
-use lib.ListN.{length, getD, take, drop, set, length-set, length-take, length-drop}
+use mathlib.Core.List.{List, [], _∷_, _++_, append-assoc, append-nil}
+use lib.ListN.{length, getD, take, drop, set, length-set, length-drop, drop-of-length-le}
 use lib.Seq.{
   sets,
+  sets-eq,
+  drop-drop,
   length-sets,
   set-comm,
   set-set,
@@ -189,3 +191,18 @@ module _ {A : Type 0} where
       part-suc (set l (at + n) v) at n v (rw length-set h)
       ∙ ap (λ (m : List A). m ++ (getD (set l (at + n) v) (at + n) v ∷ [])) (part-sets-out l (at + n) (v ∷ []) at n v (inl (omega arith)) (omega arith))
       ∙ ap (λ (x : A). part l at n ++ (x ∷ [])) (getD-set-same l (at + n) v v h)
+
+  -- a section lent as a slice of its own, and written whole, comes back as stores into the list
+  pub lent : (l : List A) (a k : ℕ) {ys : List A} (vs : List A) → length vs ≡ k → a + k ≤ length l → ys ≡ sets (part l a k) 0 vs
+      → take a l ++ (ys ++ drop k (drop a l)) ≡ sets l a vs
+  lent l a k vs long fits e =
+      ap (λ (m : List A). take a l ++ (m ++ drop k (drop a l))) (e ∙ covered)
+      ∙ ap (λ (m : List A). take a l ++ (vs ++ m)) (drop-drop k a l ∙ ap (λ (n : ℕ). drop (a + n) l) (sym long))
+      ∙ sym (append-assoc (take a l) vs (drop (a + length vs) l))
+      ∙ sym (sets-eq vs l a (rw long fits))
+    where
+      covered : sets (part l a k) 0 vs ≡ vs
+      covered =
+          sets-eq vs (part l a k) 0 (omega (arith, long, length-part l a k fits))
+          ∙ ap (λ (m : List A). vs ++ m) (drop-of-length-le (part l a k) {i = 0 + length vs} (omega (arith, long, length-part l a k fits)))
+          ∙ append-nil vs

@@ -68,7 +68,7 @@ module _ (b : List ℕ) (u v x y : ℕ) where
       omega (arith, ap (firstPort b) q, ap (ins b) q)
 
 -- a test of one number that says the same as two tests
-both : {a b c d m n : ℕ} → (m ≡ n → (a ≡ b) × (c ≡ d)) → (a ≡ b → c ≡ d → m ≡ n) → eqb m n ≡ (eqb a b && eqb c d)
+pub both : {a b c d m n : ℕ} → (m ≡ n → (a ≡ b) × (c ≡ d)) → (a ≡ b → c ≡ d → m ≡ n) → eqb m n ≡ (eqb a b && eqb c d)
 both {a} {b} {c} {d} {m} {n} split join = go (ℕ-discrete a b) (ℕ-discrete c d)
   where
     go : Dec (a ≡ b) → Dec (c ≡ d) → eqb m n ≡ (eqb a b && eqb c d)

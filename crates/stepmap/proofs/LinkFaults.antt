@@ -1,18 +1,17 @@
 -- The faults of a link: what the test for refusal 4 says, and refusal 5 by the ports at which links end.
--- Rests on paper's Map and Refusals, PortNumbers and lists.AllAny.
+-- Rests on paper's Map and Refusals, PortNumbers and order_theory.Ports.
 use Prim.Native.Nat.{ℕ, _+_, _≤_, _<_}
-use native.Mathlib.Decide.{ℕ-discrete, decLt}
 use native.Mathlib.Omega.{arith}
 use mathlib.Core.Bool.{Bool, true, false, _&&_, and-false}
 use mathlib.Core.List.{List}
-use mathlib.Core.Path.{_≡_, refl, sym, ap, _∙_, subst}
+use mathlib.Core.Path.{_≡_, refl, sym, ap, ap₂, subst}
 use lib.Dec.{T, eqb, ltb, leb}
-use borrow.Author.Tests.{lt-ltb, le-ltb, eq-eqb, ne-eqb, not-false}
-use Rattle.lists.proofs.Tests.{Says, _and_, lt-says}
+use borrow.Author.Tests.{lt-ltb, le-ltb, not-false}
 use Rattle.lists.specs.Lists.{upto, any}
 use Rattle.paper.specs.Map.{N, ins, outs, linkFrom, linkOut, linkTo, linkIn, firstPort, input, targetPort, missing, second}
 use Rattle.lists.proofs.AllAny.{any-same}
-use Rattle.lists.proofs.Tests.{not-ltb}
+use Rattle.lists.proofs.Tests.{Says, _and_, lt-says, not-ltb}
+use Rattle.order_theory.proofs.Ports.{both, input-same}
 use Rattle.stepmap.proofs.PortNumbers.{first-port-next, first-rises}
 
 -- ---- refusal 4, test by test
@@ -77,35 +76,15 @@ target-below b k e =
     let next : linkTo b k + 1 ≤ N b = omega (arith, e .to) in
     omega (arith, target-sum b k, e .inward, first-port-next b (linkTo b k), first-rises b (linkTo b k + 1) (N b) next)
 
--- two inputs of different nodes are different ports
-apart : (b : List ℕ) (v w i j : ℕ) → v < w → i < ins b v → firstPort b v + i ≡ firstPort b w + j → ⊥
-apart b v w i j lt h e =
-    let next : v + 1 ≤ w = omega arith in
-    omega (arith, first-port-next b v, first-rises b (v + 1) w next)
-
-same-port : (b : List ℕ) (v w i j : ℕ) → i < ins b v → j < ins b w
-    → (eqb v w && eqb i j) ≡ eqb (firstPort b v + i) (firstPort b w + j)
-same-port b v w i j hi hj = nodes (ℕ-discrete v w) (ℕ-discrete i j)
-  where
-    nodes : Dec (v ≡ w) → Dec (i ≡ j) → (eqb v w && eqb i j) ≡ eqb (firstPort b v + i) (firstPort b w + j)
-    nodes (yes e) (yes f) =
-        rw (eq-eqb v w e, eq-eqb i j f) (sym (eq-eqb (firstPort b v + i) (firstPort b w + j) (omega (arith, ap (firstPort b) e))))
-    nodes (yes e) (no ne) =
-        rw (eq-eqb v w e, ne-eqb i j ne) (sym (ne-eqb (firstPort b v + i) (firstPort b w + j) (λ q. ne (omega (arith, ap (firstPort b) e)))))
-    nodes (no ne) d = rw (ne-eqb v w ne) (sym (ne-eqb _ _ (λ q. order (decLt v w) q)))
-      where
-        order : Dec (v < w) → firstPort b v + i ≡ firstPort b w + j → ⊥
-        order (yes lt) q = apart b v w i j lt hi q
-        order (no ge) q = apart b w v j i (omega arith) hj (sym q)
-
 pub second-by-port : (b : List ℕ) (k : ℕ) → ((j : ℕ) → j < k → missing b j ≡ false) → missing b k ≡ false
     → second b k ≡ any (λ j. eqb (targetPort b j) (targetPort b k)) (upto k)
-unfolding second
+unfolding second targetPort
 second-by-port b k sound here =
     any-same _ _ k (λ j lt. pair j (ends b j (sound j lt)))
   where
     pair : (j : ℕ) → Ends b j
         → (eqb (linkTo b j) (linkTo b k) && eqb (linkIn b j) (linkIn b k)) ≡ eqb (targetPort b j) (targetPort b k)
     pair j e =
-        same-port b (linkTo b j) (linkTo b k) (linkIn b j) (linkIn b k) (e .inward) (ends b k here .inward)
-        ∙ rw (target-sum b j, target-sum b k)
+        sym
+        (both {a = linkTo b j} {b = linkTo b k} {c = linkIn b j} {d = linkIn b k} {m = targetPort b j} {n = targetPort b k}
+        (input-same b (linkTo b j) (linkTo b k) (linkIn b j) (linkIn b k) (e .inward) (ends b k here .inward)) (λ p q. ap₂ (input b) p q))

@@ -6,3 +6,4 @@ pub mod Turning
 pub mod Running
 pub mod Inputs
 pub mod Ordered
+pub mod Composing

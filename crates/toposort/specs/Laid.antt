@@ -1,0 +1,48 @@
+-- The scratch as ordering lays it out, and what it leaves in the area.
+-- Rests on paper's Area, links_by_port's byPort and Standing.
+use Prim.Native.Nat.{ℕ, _+_, _*_, _≤_}
+use mathlib.Core.Path.{_≡_}
+use mathlib.Core.List.{List, map}
+use lib.ListN.{length}
+use lib.Seq.{sets}
+use Rattle.lists.specs.Lists.{upto}
+use Rattle.paper.specs.Map.{firstPort, linkTo, sourcePort}
+use Rattle.paper.specs.Order.{queueAfter}
+use Rattle.paper.specs.Refusals.{passed, rule45}
+use Rattle.stepmap.specs.Formed.{ReadWell}
+use Rattle.links_by_port.specs.Tabled.{byPort}
+use Rattle.toposort.specs.Standing.{laid}
+
+-- where the scratch of a map of n nodes and l links starts, and in it the first ports, the keys, the starts of the ports' links, the
+-- links by port, and the counters
+abbrev pub firstsAt : ℕ → ℕ → ℕ
+firstsAt n l = 3 + 6 * n + 5 * l
+
+abbrev pub keysAt : ℕ → ℕ → ℕ
+keysAt n l = firstsAt n l + (n + 1)
+
+abbrev pub startsAt : ℕ → ℕ → ℕ
+startsAt n l = keysAt n l + l
+
+abbrev pub sortedAt : ℕ → ℕ → ℕ → ℕ
+sortedAt n l p = startsAt n l + (p + 1)
+
+abbrev pub countsAt : ℕ → ℕ → ℕ → ℕ
+countsAt n l p = sortedAt n l p + l
+
+-- a map that passes 1, 2, 4 and 5, and an area that passes 3
+pub record Ready (b a : List ℕ) (n l p : ℕ) : Type 0 where
+  pub read : ReadWell b n l p
+  pub links : rule45 b ≡ passed
+  pub room : 7 + 10 * n + 9 * l + 2 * p ≤ length a
+
+-- the first ports and the links by output port
+unfoldable pub indexed : List ℕ → List ℕ → ℕ → ℕ → ℕ → List ℕ
+indexed b a n l p =
+    byPort (sets a (firstsAt n l) (map (firstPort b) (upto (n + 1)))) (keysAt n l) (startsAt n l) (sortedAt n l p)
+    (map (sourcePort b) (upto l)) p
+
+-- and over them the order, with the targets of the links and the counters
+unfoldable pub orderLaid : List ℕ → List ℕ → ℕ → ℕ → ℕ → List ℕ
+orderLaid b a n l p =
+    laid b (sets (indexed b a n l p) (keysAt n l) (map (linkTo b) (upto l))) n 1 (countsAt n l p) (queueAfter b n)
