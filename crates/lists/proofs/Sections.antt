@@ -1,6 +1,7 @@
 -- Laws on a section of one list, over its offset and length: `sets l at vs` is l with vs stored from `at` on (lib.Seq).
 -- Rests on lib.Seq's laws of one store.
-use Prim.Native.Nat.{ℕ, zero, suc, _+_, _≤_, _<_}
+use Prim.Native.Nat.{ℕ, zero, suc, _+_, _-_, _≤_, _<_}
+use native.Mathlib.Decide.{decLt}
 use native.Mathlib.Nat.{add-zero}
 use native.Mathlib.Omega.{arith}
 use mathlib.Core.Path.{_≡_, refl, sym, ap, _∙_, subst}
@@ -206,3 +207,29 @@ module _ {A : Type 0} where
           sets-eq vs (part l a k) 0 (omega (arith, long, length-part l a k fits))
           ∙ ap (λ (m : List A). vs ++ m) (drop-of-length-le (part l a k) {i = 0 + length vs} (omega (arith, long, length-part l a k fits)))
           ∙ append-nil vs
+
+  -- a section that is covered by a later one is gone
+  pub sets-under : (l : List A) (at : ℕ) (vs : List A) (p : ℕ) (ws : List A) → A → p ≤ at → at + length vs ≤ p + length ws → p + length ws ≤ length l
+      → sets (sets l at vs) p ws ≡ sets l p ws
+  sets-under l at vs p ws d low high fits =
+      ext-getD d (sets (sets l at vs) p ws) (sets l p ws)
+      (length-sets (sets l at vs) p ws ∙ length-sets l at vs ∙ sym (length-sets l p ws)) (λ j h. go j (decLt j p) (decLt j (p + length ws)))
+    where
+      inside : (j : ℕ) → p ≤ j → j < p + length ws → getD (sets (sets l at vs) p ws) j d ≡ getD (sets l p ws) j d
+      inside j low′ high′ =
+          ap (λ (i : ℕ). getD (sets (sets l at vs) p ws) i d) (back j low′)
+          ∙ getD-sets-in (sets l at vs) p ws (j - p) d (omega arith) (rw length-sets fits)
+          ∙ sym (getD-sets-in l p ws (j - p) d (omega arith) fits)
+          ∙ ap (λ (i : ℕ). getD (sets l p ws) i d) (sym (back j low′))
+        where
+          back : (j : ℕ) → p ≤ j → j ≡ p + (j - p)
+          back j h = omega arith
+
+      outside : (j : ℕ) → Apart j p (length ws) → Apart j at (length vs) → getD (sets (sets l at vs) p ws) j d ≡ getD (sets l p ws) j d
+      outside j far near =
+          getD-sets-out (sets l at vs) p ws j d far ∙ getD-sets-out l at vs j d near ∙ sym (getD-sets-out l p ws j d far)
+
+      go : (j : ℕ) → Dec (j < p) → Dec (j < p + length ws) → getD (sets (sets l at vs) p ws) j d ≡ getD (sets l p ws) j d
+      go j (yes h) e = outside j (inl h) (inl (omega arith))
+      go j (no h) (yes k) = inside j (omega arith) k
+      go j (no h) (no k) = outside j (inr (omega arith)) (inr (omega arith))

@@ -26,15 +26,15 @@ module _ {b a : List ℕ} {n l p : ℕ} (ready : Ready b a n l p) where
   pub firsts-fit : firstsAt n l + (n + 1) ≤ length a
   firsts-fit = omega (arith, ready .room)
 
-  ks : List ℕ
+  abbrev ks : List ℕ
   ks = map (sourcePort b) (upto l)
 
-  long-starts : length (startsBy ks p) ≡ p + 1
+  pub long-starts : length (startsBy ks p) ≡ p + 1
   unfolding startsBy
   long-starts = length-table (below ks) (suc p) ∙ omega arith
 
-  long-sorted : length (sortedBy ks p) ≡ l
-  unfolding sortedBy ks
+  pub long-sorted : length (sortedBy ks p) ≡ l
+  unfolding sortedBy
   long-sorted =
       before-port ks p
       ∙ below-all ks p
@@ -76,7 +76,7 @@ module _ {b a : List ℕ} {n l p : ℕ} (ready : Ready b a n l p) where
       started = sets keyed (startsAt n l) (startsBy ks p)
 
       is₂ : a₂ ≡ sets started (sortedAt n l p) (sortedBy ks p)
-      unfolding byPort ks keyed started
+      unfolding byPort keyed started
       is₂ = e₂
 
       long-keyed : length keyed ≡ length a
@@ -126,7 +126,6 @@ module _ {b a : List ℕ} {n l p : ℕ} (ready : Ready b a n l p) where
           }
 
       pub ordering : Ordering b a₂ n l p 1 (firstsAt n l) (keysAt n l) (startsAt n l) (sortedAt n l p) (countsAt n l p)
-      unfolding ks
       ordering =
           record {
             index =

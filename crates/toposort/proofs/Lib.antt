@@ -7,3 +7,5 @@ pub mod Running
 pub mod Inputs
 pub mod Ordered
 pub mod Composing
+pub mod Refusing
+pub mod Sizing

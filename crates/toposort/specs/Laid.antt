@@ -2,16 +2,20 @@
 -- Rests on paper's Area, links_by_port's byPort and Standing.
 use Prim.Native.Nat.{ℕ, _+_, _*_, _≤_}
 use mathlib.Core.Path.{_≡_}
-use mathlib.Core.List.{List, map}
-use lib.ListN.{length}
+use mathlib.Core.List.{List, [], _∷_, _++_, map}
+use lib.ListN.{length, replicate}
 use lib.Seq.{sets}
 use Rattle.lists.specs.Lists.{upto}
-use Rattle.paper.specs.Map.{firstPort, linkTo, sourcePort}
+use Rattle.paper.specs.Map.{N, L, P, firstPort, linkTo, sourcePort}
 use Rattle.paper.specs.Order.{queueAfter}
-use Rattle.paper.specs.Refusals.{passed, rule45}
+use Rattle.paper.specs.Refusals.{passed, rule3, rule45, rule6, decide, Answer, answer, refused, answered, onRefusal}
+use Rattle.paper.specs.Calls.{untouched, unprepared}
+use Rattle.paper.specs.Area.{cleared}
 use Rattle.stepmap.specs.Formed.{ReadWell}
 use Rattle.links_by_port.specs.Tabled.{byPort}
 use Rattle.toposort.specs.Standing.{laid}
+use Rattle.toposort.specs.declared.ordering.Ordered.{Ordered}
+use Rattle.toposort.specs.declared.ordering.Ordered.the-variants.{Malformed, TooLarge, NoRoom, Missing, Second, Cycle, Done}
 
 -- where the scratch of a map of n nodes and l links starts, and in it the first ports, the keys, the starts of the ports' links, the
 -- links by port, and the counters
@@ -46,3 +50,28 @@ indexed b a n l p =
 unfoldable pub orderLaid : List ℕ → List ℕ → ℕ → ℕ → ℕ → List ℕ
 orderLaid b a n l p =
     laid b (sets (indexed b a n l p) (keysAt n l) (map (linkTo b) (upto l))) n 1 (countsAt n l p) (queueAfter b n)
+
+-- the words that a map of these sizes asks for, set to 0
+unfoldable pub zeroed : List ℕ → ℕ → ℕ → ℕ → List ℕ
+zeroed a n l p = sets a 0 (replicate (7 + 10 * n + 9 * l + 2 * p) 0)
+
+-- 01's number and values for each case
+abbrev pub orderedSaid : Ordered → Answer (ℕ × ℕ × ℕ)
+orderedSaid Malformed = refused 1 0
+orderedSaid TooLarge = refused 2 0
+orderedSaid NoRoom = refused 3 0
+orderedSaid (Missing k) = refused 4 k
+orderedSaid (Second k) = refused 5 k
+orderedSaid (Cycle v) = refused 6 v
+orderedSaid (Done n l p) = answered (n, l, p)
+
+-- what is left of a map that passes 1 and 2: the answer, and the area's words
+pub record SizedLeft (b a : List ℕ) (n l p : ℕ) (r : Ordered) (m : List ℕ) : Type 0 where
+  pub said : orderedSaid r ≡ answer (decide (rule3 b a ∷ rule45 b ∷ rule6 b ∷ [])) (n, l, p)
+  pub left : m ≡ onRefusal (rule3 b a) a (onRefusal (decide (rule45 b ∷ rule6 b ∷ [])) (zeroed a n l p) (orderLaid b (zeroed a n l p) n l p))
+
+-- .. and of any map: "After 1, 2, 3 nothing has changed. After 4, 5, 6 .. the first W words are 0."
+pub record OrderLeft (b a : List ℕ) (r : Ordered) (m : List ℕ) : Type 0 where
+  pub said : orderedSaid r ≡ answer (decide (untouched b a ++ unprepared b)) (N b, L b, P b)
+  pub left :
+      m ≡ onRefusal (decide (untouched b a)) a (onRefusal (decide (unprepared b)) (cleared b a) (orderLaid b (cleared b a) (N b) (L b) (P b)))

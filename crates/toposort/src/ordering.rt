@@ -6,14 +6,19 @@ ghost use lib.ListN.{length};
 ghost use lib.Seq.{sets};
 ghost use Rattle.lists.specs.Lists.{upto};
 ghost use Rattle.paper.specs.Map.{firstPort};
-ghost use Rattle.paper.specs.Refusals.{rule6};
-ghost use Rattle.stepmap.specs.Formed.{Numbered};
-ghost use Rattle.toposort.specs.Laid.{Ready, orderLaid};
+ghost use Rattle.paper.specs.Refusals.{answer, onRefusal, rule6};
+ghost use Rattle.stepmap.specs.Formed.{Numbered, ReadWell};
+ghost use Rattle.toposort.specs.Laid.{OrderLeft, Ready, SizedLeft, orderLaid, orderedSaid, zeroed};
 ghost use Rattle.toposort.specs.Queue.{orderSaid};
 use super::queue::Order;
 use super::toposort;
 use links_by_port::links_by_output;
+use stepmap::links::Links;
+use stepmap::links::check_links;
 use stepmap::ports::first_ports;
+use stepmap::read::StepMap;
+use stepmap::read::read_map;
+use words::section::fill;
 
 // Writes the first ports of the n nodes, and their number, to the section at `firsts`.
 fn first_ports_at(b: &[u8], n: usize, area: &mut [u16], firsts: usize)
@@ -38,4 +43,73 @@ pub fn order_nodes(b: &[u8], n: usize, l: usize, p: usize, area: &mut [u16]) -> 
     first_ports_at(b, n, area, firsts);
     links_by_output(b, n, l, p, area, firsts, keys, starts, sorted);
     toposort(b, n, l, p, area, 1, firsts, keys, starts, sorted, counts)
+}
+
+// What ordering any map in any area comes to: refusals 1 to 6, or the map's sizes.
+pub enum Ordered {
+    Malformed,
+    TooLarge,
+    NoRoom,
+    Missing(usize),
+    Second(usize),
+    Cycle(usize),
+    Done {
+        nodes: usize,
+        links: usize,
+        ports: usize,
+    },
+}
+
+// Orders a map that passes 1 to 5; after 6 the words are 0 again.
+fn order_sound(b: &[u8], n: usize, l: usize, p: usize, area: &mut [u16]) -> Ordered
+    requires { ⌜ Ready (now b) (now area) n l p ⌝ }
+    ensures { λ r. ⌜ (orderedSaid r ≡ answer (rule6 (now (b .entry))) (n, l, p))
+        × (now (area .exit) ≡ onRefusal (rule6 (now (b .entry))) (zeroed (now (area .entry)) n l p) (orderLaid (now (b .entry)) (now (area .entry)) n l p)) ⌝ }
+{
+    let found = order_nodes(b, n, l, p, area);
+    match found {
+        Order::All => Ordered::Done {
+            nodes: n,
+            links: l,
+            ports: p,
+        },
+        Order::Cycle(v) => {
+            fill(area, 0, 7 + 10 * n + 9 * l + 2 * p, 0);
+            Ordered::Cycle(v)
+        }
+    }
+}
+
+// Orders a map that passes 1 and 2: refusal 3 leaves the area as it was, and all others leave the words of the map at 0.
+fn order_sized(b: &[u8], n: usize, l: usize, p: usize, area: &mut [u16]) -> Ordered
+    requires { ⌜ ReadWell (now b) n l p ⌝ }
+    ensures { λ r. ⌜ SizedLeft (now (b .entry)) (now (area .entry)) n l p r (now (area .exit)) ⌝ }
+{
+    let words = 7 + 10 * n + 9 * l + 2 * p;
+    if area.len() < words {
+        return Ordered::NoRoom;
+    }
+    fill(area, 0, words, 0);
+    let found = check_links(b, n, l);
+    match found {
+        Links::Missing(k) => Ordered::Missing(k),
+        Links::Second(k) => Ordered::Second(k),
+        Links::Sound => order_sound(b, n, l, p, area),
+    }
+}
+
+// Orders any map in any area: refusals 1 to 6 in their order, or the order laid into the area.
+pub fn order_map(b: &[u8], area: &mut [u16]) -> Ordered
+    ensures { λ r. ⌜ OrderLeft (now (b .entry)) (now (area .entry)) r (now (area .exit)) ⌝ }
+{
+    let map = read_map(b);
+    match map {
+        StepMap::Malformed => Ordered::Malformed,
+        StepMap::TooLarge => Ordered::TooLarge,
+        StepMap::Sized {
+            nodes,
+            links,
+            ports,
+        } => order_sized(b, nodes, links, ports, area),
+    }
 }

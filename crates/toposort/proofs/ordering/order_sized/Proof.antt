@@ -1,0 +1,90 @@
+-- `toposort::ordering::order_sized` meets its contract: refusal 3, then 4 or 5, then what `order_sound` says.
+-- Rests on Sizing.
+use borrow.Author.Needs.{needs}
+use mathlib.Core.Path.{refl, sym, ap, _∙_}
+use Rattle.stepmap.specs.Said.{linksSaid}
+use Rattle.stepmap.proofs.Known.{well-at}
+use Rattle.toposort.proofs.Sizing.{no-room, bad-link, ready-zeroed, sound-links}
+use Rattle.toposort.proofs.ordering.order_sized.Statement.{statement}
+use Rattle.toposort.proofs.ordering.order_sized.Tie as tie
+
+mul-words : tie.Need-mul-words
+mul-words c = search needs
+
+add-words : tie.Need-add-words
+add-words c = search needs
+
+mul-words-2 : tie.Need-mul-words-2
+mul-words-2 c = search needs
+
+add-words-2 : tie.Need-add-words-2
+add-words-2 c = search needs
+
+mul-words-3 : tie.Need-mul-words-3
+mul-words-3 c = search needs
+
+add-words-3 : tie.Need-add-words-3
+add-words-3 c = search needs
+
+returns : tie.Need-returns
+returns c = no-room (c .before .before .before .pre) _ (c .if1 .taken) refl
+
+fill-requires : tie.Need-fill-requires
+fill-requires c κs = search needs
+
+check-links-requires : tie.Need-check-links-requires
+check-links-requires c κs = well-at (c .before .before .before .before .before .before .before .pre)
+
+enum-known-found : tie.Need-enum-known-found
+enum-known-found c = search needs
+
+enum-known-found-2 : tie.Need-enum-known-found-2
+enum-known-found-2 c = search needs
+
+enum-told : tie.Need-enum-told
+enum-told c = search needs
+
+order-sound-requires : tie.Need-order-sound-requires
+order-sound-requires c κs = ready-zeroed (c .before .before .before .before .before .before .before .before .before .before .before .pre) _ (search needs) (c .before .before .before .before .before .before .fill .ensures) (ap linksSaid (sym (c .before .enum-told .given .1)) ∙ c .before .before .before .check-links .ensures)
+
+same-length : tie.Need-same-length
+same-length c = search needs
+
+returns-2 : tie.Need-returns-2
+returns-2 c = bad-link (c .before .before .before .before .before .before .before .before .before .before .before .pre) _ (search needs) refl (ap linksSaid (sym (c .before .found .given .1)) ∙ c .before .before .before .check-links .ensures) (c .before .before .before .before .before .before .fill .ensures)
+
+same-length-2 : tie.Need-same-length-2
+same-length-2 c = search needs
+
+returns-3 : tie.Need-returns-3
+returns-3 c = bad-link (c .before .before .before .before .before .before .before .before .before .before .before .pre) _ (search needs) refl (ap linksSaid (sym (c .before .found2 .given .1)) ∙ c .before .before .before .check-links .ensures) (c .before .before .before .before .before .before .fill .ensures)
+
+same-length-3 : tie.Need-same-length-3
+same-length-3 c = search needs
+
+returns-4 : tie.Need-returns-4
+returns-4 c = sound-links (c .before .before .before .before .before .before .before .before .before .before .before .before .before .before .pre) _ (search needs) (c .before .before .before .before .before .before .before .before .before .fill .ensures) (ap linksSaid (sym (c .before .before .before .before .enum-told .given .1)) ∙ c .before .before .before .before .before .before .check-links .ensures) (c .before .before .order-sound .ensures .0) (c .before .before .order-sound .ensures .1)
+
+pub order-sized-spec : {M : Type 1} → statement M
+order-sized-spec =
+    tie.close
+    (tie.spec
+    mul-words
+    add-words
+    mul-words-2
+    add-words-2
+    mul-words-3
+    add-words-3
+    returns
+    fill-requires
+    check-links-requires
+    enum-known-found
+    enum-known-found-2
+    enum-told
+    order-sound-requires
+    same-length
+    returns-2
+    same-length-2
+    returns-3
+    same-length-3
+    returns-4)
