@@ -1,0 +1,2 @@
+pub mod ListsLaid
+pub mod Written
