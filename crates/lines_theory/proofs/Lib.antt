@@ -1,2 +1,11 @@
 pub mod ListsLaid
+pub mod ListsWeight
+pub mod ListsMembers
+pub mod ListsNeighbours
 pub mod Written
+pub mod Taking
+pub mod Pushing
+pub mod Weighed
+pub mod Taken
+pub mod Adjacent
+pub mod Placing

@@ -1,1 +1,3 @@
 pub mod Sized
+pub mod Weight
+pub mod Lined
