@@ -9,3 +9,8 @@ pub mod Weighed
 pub mod Taken
 pub mod Adjacent
 pub mod Placing
+pub mod Frontier
+pub mod ListsOnce
+pub mod PlacedAs
+pub mod Good
+pub mod Accepted

@@ -1,11 +1,12 @@
 -- Membership in a list of anything, joined to counts: what is a member counts, and what counts has a member.
 -- Rests on mathlib's `List·Memᴰ` and on lists.Count.
 use Prim.Native.Nat.{ℕ, zero, suc, _+_, _≤_, _<_}
-use native.Mathlib.Decide.{ℕ-discrete}
+use native.Mathlib.Decide.{ℕ-discrete, decLt}
 use native.Mathlib.Omega.{arith}
-use mathlib.Core.Path.{_≡_, refl, sym, ap, _∙_}
+use mathlib.Core.Path.{_≡_, refl, sym, ap, ap₂, _∙_}
+use mathlib.Core.Logic.{_⊎_, inl, inr}
 use mathlib.Core.Bool.{Bool, true, false, cond, _||_}
-use mathlib.Core.List.{List, [], _∷_, _++_, map, List·Memᴰ, List·Memᴰ·head, List·Memᴰ·tail}
+use mathlib.Core.List.{List, [], _∷_, _++_, map, List·Memᴰ, List·Memᴰ·head, List·Memᴰ·tail, List·Memᴰ·cases-cons}
 use lib.ListN.{length, getD}
 use lib.Dec.{eqb}
 use borrow.Author.Tests.{eq-eqb, ne-eqb}
@@ -27,6 +28,24 @@ module _ {A : Type 0} where
   pub keep-nothing : (f : A → Bool) (xs : List A) → ((x : A) → List·Memᴰ x xs → f x ≡ false) → keep f xs ≡ []
   keep-nothing f [] h = refl
   keep-nothing f (x ∷ xs) h = rw (h x (List·Memᴰ·head refl)) (keep-nothing f xs (λ y m. h y (List·Memᴰ·tail m)))
+
+  pub keep-there : (f : A → Bool) {x : A} (xs : List A) → List·Memᴰ x (keep f xs) → List·Memᴰ x xs
+  keep-there f [] m = m
+  keep-there f {x} (y ∷ ys) m = go (f y) m (keep-there f ys)
+    where
+      there : (x ≡ y) ⊎ List·Memᴰ x (keep f ys) → (List·Memᴰ x (keep f ys) → List·Memᴰ x ys) → List·Memᴰ x (y ∷ ys)
+      there (inl e) ih = List·Memᴰ·head e
+      there (inr n) ih = List·Memᴰ·tail (ih n)
+
+      go : (t : Bool) → List·Memᴰ x (cond t (y ∷ keep f ys) (keep f ys)) → (List·Memᴰ x (keep f ys) → List·Memᴰ x ys) → List·Memᴰ x (y ∷ ys)
+      go true m ih = there (List·Memᴰ·cases-cons m) ih
+      go false m ih = List·Memᴰ·tail (ih m)
+
+  -- numbers that agree on the members
+  pub map-members : (f g : A → ℕ) (xs : List A) → ((x : A) → List·Memᴰ x xs → f x ≡ g x) → map f xs ≡ map g xs
+  map-members f g [] h = refl
+  map-members f g (x ∷ xs) h =
+      ap₂ (λ (y : ℕ) (ys : List ℕ). y ∷ ys) (h x (List·Memᴰ·head refl)) (map-members f g xs (λ y m. h y (List·Memᴰ·tail m)))
 
   -- a member whose number is n
   pub record MemberFor (g : A → ℕ) (n : ℕ) (xs : List A) : Type 0 where
@@ -95,3 +114,11 @@ times-member n xs h = go (ℕ-discrete (times n xs) 0)
     go : Dec (times n xs ≡ 0) → times n xs ≡ one (member n xs)
     go (yes e) = omega (arith, ap one (member-no n xs e))
     go (no ne) = omega (arith, ap one (member-yes n xs (omega arith)))
+
+-- functions that agree below n, over a list of numbers below n
+pub map-below : (f g : ℕ → ℕ) (n : ℕ) (xs : List ℕ) → Below n xs → ((k : ℕ) → k < n → f k ≡ g k) → map f xs ≡ map g xs
+map-below f g n xs below h = map-members f g xs (λ x m. h x (known x m (decLt x n)))
+  where
+    known : (x : ℕ) → List·Memᴰ x xs → Dec (x < n) → x < n
+    known x m (yes l) = l
+    known x m (no l) = absurd (omega (arith, below x (omega arith), member-count (eqb x) m (eq-eqb x x refl)))

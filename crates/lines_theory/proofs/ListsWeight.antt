@@ -10,7 +10,7 @@ use lib.Dec.{eqb}
 use Rattle.lists.specs.Lists.{from, upto, one, keep, count, times}
 use Rattle.lists.specs.Bounds.{Below}
 use Rattle.lists.proofs.Upto.{count-append, length-from}
-use Rattle.lists.proofs.Count.{cond-add, cond-mono, length-keep, times-keep-upto, times-keep-past}
+use Rattle.lists.proofs.Count.{cond-add, cond-mono, cond-none, length-keep, times-keep-upto, times-keep-past}
 use Rattle.lists.proofs.Compare.{fewer, same-length}
 use Rattle.lines_theory.specs.Weight.{total, weight}
 
@@ -62,6 +62,10 @@ pub weight-append : (f : ℕ → Bool) (h : ℕ → ℕ) (us vs ks : List ℕ) �
 weight-append f h us vs ks =
     total-add (λ k. cond (f k) (times (h k) (us ++ vs)) 0) (λ k. cond (f k) (times (h k) us) 0) (λ k. cond (f k) (times (h k) vs) 0)
     (λ k. ap (λ (n : ℕ). cond (f k) n 0) (count-append (eqb (h k)) us vs) ∙ cond-add (f k) (times (h k) us) (times (h k) vs)) ks
+
+pub weight-none : (f : ℕ → Bool) (h : ℕ → ℕ) (ks : List ℕ) → weight f h [] ks ≡ 0
+weight-none f h [] = refl
+weight-none f h (k ∷ ks) = omega (arith, weight-none f h ks, cond-none (f k))
 
 pub weight-le : (f : ℕ → Bool) (g h : ℕ → ℕ) (us vs : List ℕ) (n : ℕ) → ((k : ℕ) → k < n → times (g k) us ≤ times (h k) vs)
     → weight f g us (upto n) ≤ weight f h vs (upto n)

@@ -1,3 +1,4 @@
 pub mod Sized
 pub mod Weight
 pub mod Lined
+pub mod Good
