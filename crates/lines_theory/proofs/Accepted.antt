@@ -1,24 +1,21 @@
 -- What preparing writes is accepted.
 -- Rests on Good (the tables) and Written (they are read back as they were laid).
-use Prim.Native.Nat.{ℕ, zero, suc, _+_, _≤_, _<_}
+use Prim.Native.Nat.{ℕ, suc, _+_, _≤_, _<_}
 use native.Mathlib.Omega.{arith}
-use mathlib.Core.Path.{_≡_, refl, sym, ap, ap₂, _∙_, subst}
-use mathlib.Core.List.{List, [], _∷_, map, flatten, List·Memᴰ}
+use mathlib.Core.Path.{_≡_, sym, ap, _∙_, subst}
+use mathlib.Core.List.{List, [], map, flatten}
 use lib.ListN.{length, getD}
-use lib.Dec.{eqb}
-use borrow.Author.Tests.{eq-eqb}
 use Rattle.lists.specs.Lists.{upto, sum, one, count, member, times, Rising}
-use Rattle.lists.specs.Bounds.{Below}
 use Rattle.lists.proofs.Places.{place-known}
-use Rattle.paper.specs.Map.{N, L, linkFrom, linkTo}
-use Rattle.paper.specs.Order.{order, placeIn}
-use Rattle.paper.specs.Lines.{Tables, tables}
-use Rattle.paper.specs.Area.{Section, W, wordOf, K, orderOf, position, linesOf, nodesOf, starts, prepared}
-use Rattle.paper.specs.Accepted.{linksBetween, rightAfter, linesBetween, GoesBefore, Starts, Accepted}
+use Rattle.paper.specs.Map.{N, L}
+use Rattle.paper.specs.Lines.{Tables}
+use Rattle.paper.specs.Area.{Section, W, wordOf, K, position, nodesOf, starts, prepared}
+use Rattle.paper.specs.Accepted.{rightAfter, linesBetween, Starts, Accepted}
 use Rattle.paper.specs.Refusals.{passed, rule45, rule6}
-use Rattle.lines_theory.specs.Sized.{Sized, holding}
-use Rattle.lines_theory.specs.Good.{Good, positionIn, linesIn, nodesIn}
-use Rattle.lines_theory.proofs.ListsLaid.{starts-first, starts-next, starts-last, length-flatten, below-flatten}
+use Rattle.lines_theory.specs.Sized.{holding}
+use Rattle.lines_theory.specs.Good.{Good, positionIn, nodesIn}
+use Rattle.lines_theory.proofs.ListsLaid.{length-flatten, below-flatten}
+use Rattle.lines_theory.proofs.Starts.{starts-first, starts-next, starts-last}
 use Rattle.lines_theory.proofs.ListsWeight.{count-upto-same}
 use Rattle.lines_theory.proofs.ListsMembers.{map-below}
 use Rattle.lines_theory.proofs.Written.{
@@ -67,6 +64,18 @@ module _ {b : List ℕ} {t : Tables} (g : Good b t) (a : List ℕ) (fits : W b �
       ∙ map-below (position b (holding b t a)) (positionIn t) (N b) (nodesIn t l) (g .nodesKnown l h) (position-held (g .sized) a fits)))
       (g .rises l h)
 
+  line-known : (i : ℕ) → i < L b + t .count → wordOf b (holding b t a) Section.linesOfNodes i < t .count
+  line-known i h =
+      let below = below-flatten (t .count) (t .linesOfNodes) (λ v l. g .linesKnown v (omega (arith, g .sized .nodes))) in
+      let inside : i < length (flatten (t .linesOfNodes)) = omega (arith, length-flatten (t .linesOfNodes), g .sized .lineEntries) in
+      rw (line-entries-held (g .sized) a fits i h) (place-known (t .count) (flatten (t .linesOfNodes)) i below inside)
+
+  node-known : (i : ℕ) → i < L b + t .count → wordOf b (holding b t a) Section.nodesOfLines i < N b
+  node-known i h =
+      let below = below-flatten (N b) (t .nodesOfLines) (λ l m. g .nodesKnown l (omega (arith, g .sized .lines))) in
+      let inside : i < length (flatten (t .nodesOfLines)) = omega (arith, length-flatten (t .nodesOfLines), g .sized .nodeEntries) in
+      rw (node-entries-held (g .sized) a fits i h) (place-known (N b) (flatten (t .nodesOfLines)) i below inside)
+
   -- an area that holds good tables is accepted
   pub holding-accepted : Accepted b (holding b t a)
   holding-accepted =
@@ -84,12 +93,8 @@ module _ {b : List ℕ} {t : Tables} (g : Good b t) (a : List ℕ) (fits : W b �
             (omega (arith, k-held, g .sized .nodeEntries))
             (λ l h. line-starts-held (g .sized) a fits l (omega (arith, k-held)))
             (λ l h. g .nodesSome l (low h));
-        linesKnown =
-            λ i h. omega
-            (arith, k-held, line-entries-held (g .sized) a fits i (omega (arith, k-held)), place-known (t .count) (flatten (t .linesOfNodes)) i (below-flatten (t .count) (t .linesOfNodes) (λ v l. g .linesKnown v (omega (arith, g .sized .nodes)))) (omega (arith, k-held, length-flatten (t .linesOfNodes), g .sized .lineEntries)));
-        nodesKnown =
-            λ i h. omega
-            (arith, k-held, node-entries-held (g .sized) a fits i (omega (arith, k-held)), place-known (N b) (flatten (t .nodesOfLines)) i (below-flatten (N b) (t .nodesOfLines) (λ l m. g .nodesKnown l (omega (arith, g .sized .lines)))) (omega (arith, k-held, length-flatten (t .nodesOfLines), g .sized .nodeEntries)));
+        linesKnown = λ i h. rw k-held (line-known i (omega (arith, k-held)));
+        nodesKnown = λ i h. node-known i (omega (arith, k-held));
         rises = λ l h. line-rises l (low h);
         listed =
             λ v h l m. ap (times l) (lines-held (g .sized) a fits v h) ∙ g .listed v h l (low m)

@@ -1,38 +1,25 @@
 -- One node more on its lines, and the links into it: as many as lines on which it comes right after their sources.
 -- Rests on Taken, Weighed and ListsNeighbours.
-use Prim.Native.Nat.{ℕ, zero, suc, _+_, _≤_, _<_}
-use native.Mathlib.Decide.{ℕ-discrete, decLt}
-use native.Mathlib.Nat.{zero-add}
+use Prim.Native.Nat.{ℕ, _+_, _≤_, _<_}
+use native.Mathlib.Decide.{decLt}
 use native.Mathlib.Omega.{arith}
-use mathlib.Core.Path.{_≡_, refl, sym, ap, _∙_, subst}
-use mathlib.Core.Bool.{Bool, true, false, cond, _&&_, _||_, and-true}
+use mathlib.Core.Path.{_≡_, refl, sym, ap, _∙_}
+use mathlib.Core.Bool.{Bool, false, cond, _&&_, _||_, and-true}
 use mathlib.Core.List.{List, [], _∷_, _++_, map, append-nil, List·Memᴰ}
 use lib.ListN.{length, length-append}
 use lib.Dec.{eqb}
 use borrow.Author.Tests.{eq-eqb}
 use Rattle.lists.specs.Lists.{from, upto, one, count, member, times}
 use Rattle.lists.proofs.Upto.{count-append, keep-append, from-add}
-use Rattle.lists.proofs.Count.{one-eq, one-ne, count-map, count-same}
-use Rattle.paper.specs.Map.{L, sourcePort, portNode, inLinks}
+use Rattle.lists.proofs.Count.{count-map, count-same}
+use Rattle.paper.specs.Map.{sourcePort, portNode, inLinks}
 use Rattle.paper.specs.Lines.{End, Placed, Frontier}
 use Rattle.paper.specs.Accepted.{rightAfter, linksBetween}
 use Rattle.order_theory.specs.Sound.{Sound}
-use Rattle.lines_theory.specs.Lined.{
-  on,
-  nodesOn,
-  sources,
-  taking,
-  oldLines,
-  gain,
-  fresh,
-  newcomer,
-  Standing,
-  Lined,
-  Next,
-}
+use Rattle.lines_theory.specs.Lined.{on, nodesOn, taking, oldLines, gain, fresh, newcomer, Lined, Next}
 use Rattle.lines_theory.proofs.ListsWeight.{count-listed, count-from-none}
 use Rattle.lines_theory.proofs.ListsMembers.{count-members, member-yes, member-no, times-member, times-kept}
-use Rattle.lines_theory.proofs.ListsNeighbours.{after-more, after-apart, after-none}
+use Rattle.lines_theory.proofs.Neighbours.{after-more, after-apart, after-none}
 use Rattle.lines_theory.proofs.Weighed.{links-between}
 use Rattle.lines_theory.proofs.Taken.{unused, taken-from, taken-stood, lines-known, lines-apart}
 
@@ -103,12 +90,15 @@ module _ {b us : List ℕ} {f : Frontier} {v : ℕ} (s : Sound b) (i : Lined b u
   pub adjacent-new : count (λ l. rightAfter u v (nodesOn l (f .placed ++ (newcomer b v f ∷ [])))) (upto (f .count + length (fresh b v f))) ≡ linksBetween b u v
   adjacent-new =
       count-same _ (λ l. member l (newcomer b v f .lines) && after l) new-after (upto (f .count + length (fresh b v f)))
-      ∙ sym (count-listed (λ l. member l (newcomer b v f .lines)) (f .count + length (fresh b v f)) (newcomer b v f .lines) (lines-known s i n) (λ l h. times-member l (newcomer b v f .lines) (omega (arith, lines-apart s i n l))) after)
+      ∙ sym (count-listed (λ l. member l (newcomer b v f .lines)) (f .count + length (fresh b v f)) (newcomer b v f .lines) (lines-known s i n) listed after)
       ∙ count-append after (oldLines b v f) (fresh b v f)
       ∙ omega (arith, count-from-none after (f .count) (gain b v f) fresh-after, old)
     where
       after : ℕ → Bool
       after l = rightAfter u v (behind b v f l)
+
+      listed : (l : ℕ) → l < f .count + length (fresh b v f) → times l (newcomer b v f .lines) ≡ one (member l (newcomer b v f .lines))
+      listed l h = times-member l (newcomer b v f .lines) (omega (arith, lines-apart s i n l))
 
       old : count after (oldLines b v f) ≡ linksBetween b u v
       old =

@@ -1,10 +1,10 @@
 -- The frontier's invariant holds after every node of the order.
 -- Rests on Placing and on the order: each node once, sources before targets.
-use Prim.Native.Nat.{ℕ, zero, suc, _+_, _≤_, _<_}
+use Prim.Native.Nat.{ℕ, zero, suc, _≤_, _<_}
 use native.Mathlib.Decide.{decLt}
 use native.Mathlib.Omega.{arith}
-use mathlib.Core.Path.{_≡_, refl, sym, ap, _∙_, subst, subst₂}
-use mathlib.Core.List.{List, [], _∷_, _++_, List·Memᴰ·not-nil}
+use mathlib.Core.Path.{refl, sym, ap, subst, subst₂}
+use mathlib.Core.List.{List, [], List·Memᴰ·not-nil}
 use lib.ListN.{length, getD, take}
 use lib.Seq.{take-suc, take-take, take-length}
 use lib.Dec.{eqb}
@@ -13,7 +13,7 @@ use Rattle.lists.proofs.Count.{times-take}
 use Rattle.lists.proofs.Places.{place-new, PlaceBelow, place-times}
 use Rattle.paper.specs.Map.{N, L, linkFrom, linkTo, sourcePort}
 use Rattle.paper.specs.Order.{order}
-use Rattle.paper.specs.Lines.{Frontier, frontierAfter}
+use Rattle.paper.specs.Lines.{frontierAfter}
 use Rattle.order_theory.specs.Sound.{Sound}
 use Rattle.order_theory.proofs.Queued.{queued}
 use Rattle.order_theory.proofs.Order.{ordered-times}

@@ -1,14 +1,12 @@
 -- The tables of a map without refusal are good: "Accepted tables", sentence by sentence, before they are laid into the area.
 -- Rests on Frontier (the invariant after all nodes), PlacedAs and ListsOnce.
-use Prim.Native.Nat.{ℕ, zero, suc, _+_, _≤_, _<_}
+use Prim.Native.Nat.{ℕ, _+_, _<_}
 use native.Mathlib.Decide.{decLt}
 use native.Mathlib.Omega.{arith}
-use mathlib.Core.Path.{_≡_, refl, sym, ap, ap₂, _∙_, subst}
-use mathlib.Core.Bool.{Bool, true, false, cond}
-use mathlib.Core.List.{List, [], _∷_, map, map-map, List·Memᴰ, List·Memᴰ·head, List·Memᴰ·tail}
-use lib.ListN.{length, getD, length-map}
-use lib.Dec.{eqb}
-use Rattle.lists.specs.Lists.{upto, sum, one, keep, count, member, times, In, Rising}
+use mathlib.Core.Path.{_≡_, refl, sym, ap, _∙_, subst}
+use mathlib.Core.List.{List, [], map, map-map, List·Memᴰ}
+use lib.ListN.{length, length-map}
+use Rattle.lists.specs.Lists.{upto, sum, one, count, member, times, Rising}
 use Rattle.lists.specs.Bounds.{Below}
 use Rattle.lists.proofs.Upto.{length-from, length-table, getD-table}
 use Rattle.lists.proofs.Count.{length-keep, times-upto, times-past}
@@ -16,15 +14,15 @@ use Rattle.lists.proofs.Compare.{same-length}
 use Rattle.lists.proofs.Places.{times-in, times-in-back}
 use Rattle.paper.specs.Map.{N, L, linkFrom, linkTo}
 use Rattle.paper.specs.Order.{order, placeIn}
-use Rattle.paper.specs.Lines.{Placed, Frontier, Tables, frontierAfter, placedAs, tablesOf, tables}
-use Rattle.paper.specs.Accepted.{linksBetween, rightAfter, GoesBefore}
+use Rattle.paper.specs.Lines.{Placed, Frontier, placedAs, tablesOf, tables}
+use Rattle.paper.specs.Accepted.{rightAfter, GoesBefore}
 use Rattle.paper.specs.Refusals.{passed, rule45, rule6}
 use Rattle.order_theory.specs.Sound.{Sound}
 use Rattle.order_theory.specs.Cycle.{AllOrdered}
 use Rattle.order_theory.proofs.Order.{ordered-times, ordered-known, order-forward}
 use Rattle.order_theory.proofs.Refusals.{sound, rule6-passes}
-use Rattle.lines_theory.specs.Weight.{total, weight}
-use Rattle.lines_theory.specs.Lined.{on, nodesOn, every, Listed, Lined}
+use Rattle.lines_theory.specs.Weight.{total}
+use Rattle.lines_theory.specs.Lined.{on, nodesOn, Listed, Lined}
 use Rattle.lines_theory.specs.Sized.{Sized}
 use Rattle.lines_theory.specs.Good.{Good, positionIn, linesIn, nodesIn}
 use Rattle.lines_theory.proofs.ListsWeight.{count-total, count-upto-same, length-listed, weight-all}

@@ -1,16 +1,16 @@
--- Lists laid one after the other: where each starts, and how its elements are read there.
+-- Lists laid one after the other: how long the whole is, and how a part is read there.
 -- Rests on lib.Seq (reading an append).
 use Prim.Native.Nat.{ℕ, zero, suc, _+_, _-_, _≤_, _<_}
+use native.Mathlib.Nat.{zero-add}
 use native.Mathlib.Omega.{arith}
-use mathlib.Core.Path.{_≡_, refl, sym, ap, _∙_}
-use mathlib.Core.List.{List, [], _∷_, _++_, map, flatMap, flatten, append-assoc}
-use lib.ListN.{length, getD, take, drop, replicate, length-append, length-replicate, length-drop, List·getD-append}
+use mathlib.Core.Path.{_≡_, refl, ap, _∙_}
+use mathlib.Core.List.{List, [], _∷_, _++_, map, flatMap, flatten}
+use lib.ListN.{length, getD, take, replicate, length-append, length-replicate, List·getD-append}
 use lib.Seq.{slice, getD-append-add, getD-drop, getD-take, ext-getD, length-slice}
 use lib.Dec.{eqb}
-use Rattle.lists.specs.Lists.{sum, pad, count, times}
+use Rattle.lists.specs.Lists.{sum, pad}
 use Rattle.lists.specs.Bounds.{Below}
 use Rattle.lists.proofs.Upto.{count-append}
-use Rattle.paper.specs.Area.{starts}
 
 -- ---- a list made long by zeros
 
@@ -45,11 +45,8 @@ module _ {A : Type 0} (f : A → List ℕ) (size : A → ℕ) (long : (x : A) �
   unfolding flatMap
   getD-laid [] n d i h l = absurd (omega arith)
   getD-laid (x ∷ xs) zero d i h l =
-      ap (λ (j : ℕ). getD (f x ++ flatMap f xs) j 0) (plain i)
+      ap (λ (j : ℕ). getD (f x ++ flatMap f xs) j 0) (zero-add i)
       ∙ List·getD-append (f x) (flatMap f xs) 0 i (omega (arith, long x))
-    where
-      plain : (i : ℕ) → 0 + i ≡ i
-      plain i = omega arith
   getD-laid (x ∷ xs) (suc n) d i h l =
       ap (λ (j : ℕ). getD (f x ++ flatMap f xs) j 0) (behind (sum (map size (take n xs))))
       ∙ getD-append-add (f x) (flatMap f xs) (sum (map size (take n xs)) + i) 0
@@ -58,65 +55,19 @@ module _ {A : Type 0} (f : A → List ℕ) (size : A → ℕ) (long : (x : A) �
       behind : (s : ℕ) → size x + s + i ≡ length (f x) + (s + i)
       behind s = omega (arith, long x)
 
-  -- .. and ends within the whole
-  pub laid-room : (xs : List A) (n : ℕ) (d : A) → n < length xs → sum (map size (take n xs)) + size (getD xs n d) ≤ sum (map size xs)
-  laid-room [] n d h = absurd (omega arith)
-  laid-room (x ∷ xs) zero d h = omega arith
-  laid-room (x ∷ xs) (suc n) d h = omega (arith, laid-room xs n d (omega arith))
+-- .. and ends within the whole
+pub laid-room : {A : Type 0} (size : A → ℕ) (xs : List A) (n : ℕ) (d : A) → n < length xs
+    → sum (map size (take n xs)) + size (getD xs n d) ≤ sum (map size xs)
+laid-room size [] n d h = absurd (omega arith)
+laid-room size (x ∷ xs) zero d h = omega arith
+laid-room size (x ∷ xs) (suc n) d h = omega (arith, laid-room size xs n d (omega arith))
 
--- ---- lists and their starts
-
-pub length-starts : (n : ℕ) (ls : List (List ℕ)) → length (starts n ls) ≡ suc (length ls)
-unfolding starts
-length-starts n [] = refl
-length-starts n (l ∷ ls) = ap suc (length-starts (n + length l) ls)
-
-pub starts-first : (n : ℕ) (ls : List (List ℕ)) → getD (starts n ls) 0 0 ≡ n
-unfolding starts
-starts-first n [] = refl
-starts-first n (l ∷ ls) = refl
-
--- a list ends where the next one starts
-pub starts-next : (n : ℕ) (ls : List (List ℕ)) (i : ℕ) → i < length ls
-    → getD (starts n ls) (suc i) 0 ≡ getD (starts n ls) i 0 + length (getD ls i [])
-unfolding starts
-starts-next n [] i h = absurd (omega arith)
-starts-next n (l ∷ ls) zero h = starts-first (n + length l) ls
-starts-next n (l ∷ ls) (suc i) h = starts-next (n + length l) ls i (omega arith)
-
-pub starts-last : (n : ℕ) (ls : List (List ℕ)) → getD (starts n ls) (length ls) 0 ≡ n + sum (map length ls)
-unfolding starts
-starts-last n [] = omega arith
-starts-last n (l ∷ ls) = omega (arith, starts-last (n + length l) ls)
-
--- every list stands within the whole
-pub starts-room : (n : ℕ) (ls : List (List ℕ)) (i : ℕ) → i < length ls
-    → getD (starts n ls) i 0 + length (getD ls i []) ≤ n + sum (map length ls)
-unfolding starts
-starts-room n [] i h = absurd (omega arith)
-starts-room n (l ∷ ls) zero h = omega arith
-starts-room n (l ∷ ls) (suc i) h = omega (arith, starts-room (n + length l) ls i (omega arith))
+-- ---- all lists in one
 
 pub length-flatten : (ls : List (List ℕ)) → length (flatten ls) ≡ sum (map length ls)
 unfolding flatten
 length-flatten [] = refl
 length-flatten (l ∷ ls) = omega (arith, length-append l (flatten ls), length-flatten ls)
-
--- element j of list i is read from the start of list i on
-getD-behind : (p : List ℕ) (ls : List (List ℕ)) (n i j : ℕ) → length p ≡ n → i < length ls → j < length (getD ls i [])
-    → getD (p ++ flatten ls) (getD (starts n ls) i 0 + j) 0 ≡ getD (getD ls i []) j 0
-unfolding flatten starts
-getD-behind p [] n i j e h l = absurd (omega arith)
-getD-behind p (x ∷ ls) n zero j e h l =
-    ap (λ (k : ℕ). getD (p ++ (x ++ flatten ls)) (k + j) 0) (sym e) ∙ getD-append-add p (x ++ flatten ls) j 0
-    ∙ List·getD-append x (flatten ls) 0 j l
-getD-behind p (x ∷ ls) n (suc i) j e h l =
-    ap (λ (m : List ℕ). getD m (getD (starts (n + length x) ls) i 0 + j) 0) (sym (append-assoc p x (flatten ls)))
-    ∙ getD-behind (p ++ x) ls (n + length x) i j (omega (arith, length-append p x)) (omega arith) l
-
-pub getD-flatten : (ls : List (List ℕ)) (i j : ℕ) → i < length ls → j < length (getD ls i [])
-    → getD (flatten ls) (getD (starts 0 ls) i 0 + j) 0 ≡ getD (getD ls i []) j 0
-getD-flatten ls i j h l = getD-behind [] ls 0 i j refl h l
 
 pub below-flatten : (n : ℕ) (ls : List (List ℕ)) → ((i : ℕ) → i < length ls → Below n (getD ls i [])) → Below n (flatten ls)
 unfolding flatten

@@ -3,13 +3,13 @@
 use Prim.Native.Nat.{ℕ, zero, suc, _+_, _≤_, _<_}
 use native.Mathlib.Decide.{ℕ-discrete, decLt}
 use native.Mathlib.Omega.{arith}
-use mathlib.Core.Path.{_≡_, refl, sym, ap, ap₂, _∙_}
+use mathlib.Core.Path.{_≡_, refl, ap, ap₂}
 use mathlib.Core.Logic.{_⊎_, inl, inr}
 use mathlib.Core.Bool.{Bool, true, false, cond, _||_}
-use mathlib.Core.List.{List, [], _∷_, _++_, map, List·Memᴰ, List·Memᴰ·head, List·Memᴰ·tail, List·Memᴰ·cases-cons}
+use mathlib.Core.List.{List, [], _∷_, map, List·Memᴰ, List·Memᴰ·head, List·Memᴰ·tail, List·Memᴰ·cases-cons}
 use lib.ListN.{length, getD}
 use lib.Dec.{eqb}
-use borrow.Author.Tests.{eq-eqb, ne-eqb}
+use borrow.Author.Tests.{eq-eqb}
 use Rattle.lists.specs.Lists.{one, keep, count, member, times}
 use Rattle.lists.specs.Bounds.{Below}
 use Rattle.lists.proofs.Count.{one-eq, one-ne}
@@ -115,10 +115,14 @@ times-member n xs h = go (ℕ-discrete (times n xs) 0)
     go (yes e) = omega (arith, ap one (member-no n xs e))
     go (no ne) = omega (arith, ap one (member-yes n xs (omega arith)))
 
+-- a member of a list below n
+pub member-below : {n x : ℕ} {xs : List ℕ} → Below n xs → List·Memᴰ x xs → x < n
+member-below {n} {x} {xs} below m = go (decLt x n)
+  where
+    go : Dec (x < n) → x < n
+    go (yes l) = l
+    go (no l) = absurd (omega (arith, below x (omega arith), member-count (eqb x) m (eq-eqb x x refl)))
+
 -- functions that agree below n, over a list of numbers below n
 pub map-below : (f g : ℕ → ℕ) (n : ℕ) (xs : List ℕ) → Below n xs → ((k : ℕ) → k < n → f k ≡ g k) → map f xs ≡ map g xs
-map-below f g n xs below h = map-members f g xs (λ x m. h x (known x m (decLt x n)))
-  where
-    known : (x : ℕ) → List·Memᴰ x xs → Dec (x < n) → x < n
-    known x m (yes l) = l
-    known x m (no l) = absurd (omega (arith, below x (omega arith), member-count (eqb x) m (eq-eqb x x refl)))
+map-below f g n xs below h = map-members f g xs (λ x m. h x (member-below below m))

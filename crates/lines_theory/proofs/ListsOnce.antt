@@ -1,20 +1,19 @@
 -- Sums over sums in either order, and the sum over a list that holds each number below n once.
 -- Rests on ListsWeight.
-use Prim.Native.Nat.{ℕ, zero, suc, _+_, _≤_, _<_}
-use native.Mathlib.Decide.{ℕ-discrete, decLt}
+use Prim.Native.Nat.{ℕ, _+_, _<_}
+use native.Mathlib.Decide.{ℕ-discrete}
 use native.Mathlib.Omega.{arith}
 use mathlib.Core.Path.{_≡_, refl, sym, ap, _∙_}
 use mathlib.Core.Bool.{Bool, true, false, cond}
-use mathlib.Core.List.{List, [], _∷_, map, List·Memᴰ, List·Memᴰ·head, List·Memᴰ·tail}
-use lib.ListN.{length}
+use mathlib.Core.List.{List, [], _∷_, List·Memᴰ, List·Memᴰ·head, List·Memᴰ·tail}
 use lib.Dec.{eqb}
 use borrow.Author.Tests.{eq-eqb, ne-eqb, eqb-true}
 use Rattle.lists.specs.Lists.{upto, one, times}
 use Rattle.lists.specs.Bounds.{Below}
-use Rattle.lists.proofs.Count.{one-eq, one-ne, eqb-sym, times-upto}
+use Rattle.lists.proofs.Count.{times-upto}
 use Rattle.lines_theory.specs.Weight.{total}
 use Rattle.lines_theory.proofs.ListsWeight.{total-add, total-same}
-use Rattle.lines_theory.proofs.ListsMembers.{member-count}
+use Rattle.lines_theory.proofs.ListsMembers.{member-below}
 
 module _ {A : Type 0} where
   -- sums that agree on the members
@@ -63,11 +62,7 @@ same-place h x k = go (ℕ-discrete x k)
 -- over each number below n once, in any order
 pub total-once : (h : ℕ → ℕ) (n : ℕ) (xs : List ℕ) → Below n xs → ((k : ℕ) → k < n → times k xs ≡ 1) → total h xs ≡ total h (upto n)
 total-once h n xs below once =
-    total-members h (λ x. total (λ k. cond (eqb x k) (h k) 0) (upto n)) xs (λ x m. sym (sum-once h x (upto n) (times-upto x n (known x m (decLt x n)))))
+    total-members h (λ x. total (λ k. cond (eqb x k) (h k) 0) (upto n)) xs (λ x m. sym (sum-once h x (upto n) (times-upto x n (member-below below m))))
     ∙ total-swap (λ x k. cond (eqb x k) (h k) 0) xs (upto n)
     ∙ total-same (λ k. total (λ x. cond (eqb x k) (h k) 0) xs) h n
     (λ k l. total-members (λ x. cond (eqb x k) (h k) 0) (λ x. cond (eqb k x) (h x) 0) xs (λ x m. same-place h x k) ∙ sum-once h k xs (once k l))
-  where
-    known : (x : ℕ) → List·Memᴰ x xs → Dec (x < n) → x < n
-    known x m (yes l) = l
-    known x m (no l) = absurd (omega (arith, below x (omega arith), member-count (eqb x) m (eq-eqb x x refl)))

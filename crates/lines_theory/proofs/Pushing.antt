@@ -1,16 +1,16 @@
 -- Pushing line ends, the position of a node, and how many new lines it gets.
 -- Rests on the definitions (paper.Lines) and on ListsMembers.
-use Prim.Native.Nat.{ℕ, zero, suc, _+_, _-_, _≤_, _<_}
+use Prim.Native.Nat.{ℕ, suc, _+_, _-_, _≤_, _<_}
 use native.Mathlib.Omega.{arith}
-use mathlib.Core.Path.{_≡_, refl, sym, ap, _∙_}
+use mathlib.Core.Path.{_≡_, refl, ap}
 use mathlib.Core.Logic.{_⊎_, inl, inr}
 use mathlib.Core.Bool.{Bool, true, false, cond}
-use mathlib.Core.List.{List, [], _∷_, _++_, map, List·Memᴰ, List·Memᴰ·head, List·Memᴰ·tail, List·Memᴰ·cases-cons, List·Memᴰ·not-nil}
+use mathlib.Core.List.{List, [], _∷_, map, List·Memᴰ, List·Memᴰ·head, List·Memᴰ·tail, List·Memᴰ·cases-cons, List·Memᴰ·not-nil}
 use lib.ListN.{length}
 use lib.Dec.{eqb}
 use borrow.Author.Tests.{eqb-true, eqb-false}
-use Rattle.lists.specs.Lists.{one, count, times, greatest}
-use Rattle.lists.proofs.Count.{one-eq, count-map}
+use Rattle.lists.specs.Lists.{count, times, greatest}
+use Rattle.lists.proofs.Count.{count-map}
 use Rattle.paper.specs.Lines.{End, push, positionAbove, newLines}
 use Rattle.lines_theory.specs.Lined.{made}
 
@@ -29,7 +29,10 @@ module _ (position : ℕ) where
       → times n (map g (push position ps ls ends)) ≡ times n (map g (made position ps ls)) + times n (map g ends)
   push-times g n ps ls ends =
       omega
-      (arith, push-count (λ e. eqb n (g e)) ps ls ends, count-map (eqb n) g (push position ps ls ends), count-map (eqb n) g (made position ps ls), count-map (eqb n) g ends)
+      (arith, push-count (λ e. eqb n (g e)) ps ls ends, same (push position ps ls ends), same (made position ps ls), same ends)
+    where
+      same : (es : List End) → times n (map g es) ≡ count (λ e. eqb n (g e)) es
+      same es = count-map (eqb n) g es
 
   pub push-there : {e : End} (ps ls : List ℕ) (ends : List End) → List·Memᴰ e (push position ps ls ends)
       → List·Memᴰ e (made position ps ls) ⊎ List·Memᴰ e ends

@@ -1,40 +1,26 @@
 -- What the next node takes: one line from each linked output port, each a line that stands, none twice; and its list of lines.
 -- Rests on Taking, Pushing and Weighed; the invariant is Lined.
-use Prim.Native.Nat.{ℕ, zero, suc, _+_, _≤_, _<_}
-use native.Mathlib.Decide.{ℕ-discrete, decLt}
+use Prim.Native.Nat.{ℕ, _+_, _≤_, _<_}
+use native.Mathlib.Decide.{decLt}
 use native.Mathlib.Omega.{arith}
-use mathlib.Core.Path.{_≡_, refl, sym, ap, _∙_}
+use mathlib.Core.Path.{_≡_, sym, ap, _∙_}
 use mathlib.Core.Logic.{_⊎_, inl, inr}
-use mathlib.Core.Bool.{Bool, true, false}
+use mathlib.Core.Bool.{Bool}
 use mathlib.Core.List.{List, [], _∷_, _++_, map, List·Memᴰ, List·Memᴰ·not-nil}
 use lib.ListN.{length, length-append, length-map}
 use lib.Dec.{eqb}
-use Rattle.lists.specs.Lists.{upto, member, times}
+use Rattle.lists.specs.Lists.{upto, times}
 use Rattle.lists.specs.Bounds.{Below}
 use Rattle.lists.proofs.Upto.{count-append, length-from}
 use Rattle.lists.proofs.Count.{count-map, times-before, times-after, times-among}
-use Rattle.paper.specs.Map.{L, linkFrom, linkTo, sourcePort, inLinks, outLinks}
-use Rattle.paper.specs.Lines.{End, Placed, Frontier, Taking, newLines}
+use Rattle.paper.specs.Map.{L, linkFrom, linkTo, sourcePort, inLinks}
+use Rattle.paper.specs.Lines.{End, Frontier}
 use Rattle.order_theory.specs.Sound.{Sound}
-use Rattle.lines_theory.specs.Weight.{weight}
-use Rattle.lines_theory.specs.Lined.{
-  on,
-  sources,
-  taking,
-  oldLines,
-  gain,
-  fresh,
-  level,
-  newcomer,
-  Standing,
-  Listed,
-  Lined,
-  Next,
-}
+use Rattle.lines_theory.specs.Lined.{on, sources, taking, oldLines, gain, fresh, level, newcomer, Standing, Lined, Next}
 use Rattle.lines_theory.proofs.ListsWeight.{weight-append, weight-le}
-use Rattle.lines_theory.proofs.ListsMembers.{member-for, member-times, below-members, keep-nothing, member-no}
+use Rattle.lines_theory.proofs.ListsMembers.{member-for, below-members, keep-nothing, member-no}
 use Rattle.lines_theory.proofs.Taking.{taken-times, taken-ports, taken-there, left-there}
-use Rattle.lines_theory.proofs.Pushing.{enough, above-few}
+use Rattle.lines_theory.proofs.Pushing.{above-few}
 use Rattle.lines_theory.proofs.Weighed.{in-weight}
 
 -- a line that was never given has no node
@@ -46,8 +32,10 @@ module _ {b us : List ℕ} {f : Frontier} {v : ℕ} (s : Sound b) (i : Lined b u
 
   port-enough : (p : ℕ) → times p (sources b v) ≤ times p (map (λ e. e .port) (f .ends))
   port-enough p =
-      omega
-      (arith, i .balance p, count-map (eqb p) (sourcePort b) (inLinks b v), in-weight s v at-port, weight-append at-port (linkTo b) us (v ∷ []) (upto (L b)), weight-le at-port (linkTo b) (linkFrom b) (us ++ (v ∷ [])) us (L b) (n .ready))
+      let into = count-map (eqb p) (sourcePort b) (inLinks b v) ∙ in-weight s v at-port in
+      let to = weight-append at-port (linkTo b) us (v ∷ []) (upto (L b)) in
+      let ready = weight-le at-port (linkTo b) (linkFrom b) (us ++ (v ∷ [])) us (L b) (n .ready) in
+      omega (arith, i .balance p, into, to, ready)
     where
       at-port : ℕ → Bool
       at-port k = eqb p (sourcePort b k)

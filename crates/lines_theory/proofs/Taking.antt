@@ -1,7 +1,6 @@
 -- Taking line ends: nothing is lost, and where enough ends stand each port asked gives one.
 -- Rests on the definitions of taking (paper.Lines) and on ListsMembers.
-use Prim.Native.Nat.{ℕ, zero, suc, _+_, _≤_, _<_}
-use native.Mathlib.Decide.{ℕ-discrete}
+use Prim.Native.Nat.{ℕ, _+_, _≤_}
 use native.Mathlib.Omega.{arith}
 use mathlib.Core.Path.{_≡_, refl, sym, ap, _∙_}
 use mathlib.Core.Logic.{_⊎_, inl, inr}
@@ -22,7 +21,7 @@ use mathlib.Core.List.{
   List·Memᴰ·append-cases,
   List·Memᴰ·not-nil,
 }
-use lib.ListN.{length, take}
+use lib.ListN.{take}
 use lib.Dec.{eqb}
 use borrow.Author.Tests.{eqb-true}
 use Rattle.lists.specs.Lists.{one, keep, count, times}
@@ -101,7 +100,10 @@ pub taken-times : (g : End → ℕ) (n : ℕ) (ps : List ℕ) (t : Taking)
     → times n (map g (takeAll ps t .taken)) + times n (map g (takeAll ps t .ends)) ≡ times n (map g (t .taken)) + times n (map g (t .ends))
 taken-times g n ps t =
     omega
-    (arith, taken-conserved (λ e. eqb n (g e)) ps t, count-map (eqb n) g (takeAll ps t .taken), count-map (eqb n) g (takeAll ps t .ends), count-map (eqb n) g (t .taken), count-map (eqb n) g (t .ends))
+    (arith, taken-conserved (λ e. eqb n (g e)) ps t, same (takeAll ps t .taken), same (takeAll ps t .ends), same (t .taken), same (t .ends))
+  where
+    same : (es : List End) → times n (map g es) ≡ count (λ e. eqb n (g e)) es
+    same es = count-map (eqb n) g es
 
 -- where enough ends stand, every port asked gives one, in turn
 pub taken-ports : (ps : List ℕ) (t : Taking) → ((p : ℕ) → times p ps ≤ times p (map (λ e. e .port) (t .ends)))
@@ -120,7 +122,10 @@ taken-ports (p ∷ ps) t h =
     left : (q : ℕ) → times q ps ≤ times q (map (λ e. e .port) (without p (t .ends)))
     left q =
         omega
-        (arith, h q, last-conserved p (λ e. eqb q (e .port)) (t .ends), count-map (eqb q) (λ (e : End). e .port) (lastPushed p (t .ends)), count-map (eqb q) (λ (e : End). e .port) (without p (t .ends)), count-map (eqb q) (λ (e : End). e .port) (t .ends), ap (times q) one-taken)
+        (arith, h q, last-conserved p (λ e. eqb q (e .port)) (t .ends), same (lastPushed p (t .ends)), same (without p (t .ends)), same (t .ends), ap (times q) one-taken)
+      where
+        same : (es : List End) → times q (map (λ e. e .port) es) ≡ count (λ e. eqb q (e .port)) es
+        same es = count-map (eqb q) (λ e. e .port) es
 
 pub taken-there : {e : End} (ps : List ℕ) (t : Taking) → List·Memᴰ e (takeAll ps t .taken) → List·Memᴰ e (t .taken) ⊎ List·Memᴰ e (t .ends)
 unfolding takeAll takeFrom

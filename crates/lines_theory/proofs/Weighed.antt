@@ -1,27 +1,25 @@
 -- The links of a node as weights over all links, and the owner of a link's output port.
 -- Rests on order_theory (each link stands once among its node's links) and ListsWeight.
-use Prim.Native.Nat.{ℕ, zero, suc, _+_, _≤_, _<_}
-use native.Mathlib.Decide.{decLt}
+use Prim.Native.Nat.{ℕ, suc, _+_, _≤_, _<_}
 use native.Mathlib.Omega.{arith}
-use mathlib.Core.Path.{_≡_, refl, sym, ap, ap₂, _∙_}
+use mathlib.Core.Path.{_≡_, refl, sym, ap, _∙_}
 use mathlib.Core.Bool.{Bool, true, false, cond, _&&_, and-comm}
-use mathlib.Core.List.{List, [], _∷_, map, List·Memᴰ}
+use mathlib.Core.List.{List, [], _∷_, List·Memᴰ}
 use lib.ListN.{length}
 use lib.Dec.{eqb, ltb}
 use borrow.Author.Tests.{lt-ltb, le-ltb, eq-eqb}
 use Rattle.lists.specs.Lists.{upto, one, count, times}
 use Rattle.lists.specs.Found.{number}
-use Rattle.lists.proofs.Count.{cond-none, cond-one, one-eq-back}
+use Rattle.lists.proofs.Count.{one-eq-back}
 use Rattle.lists.proofs.First.{FirstOf, first-is}
-use Rattle.lists.proofs.Places.{times-in}
-use Rattle.paper.specs.Map.{N, L, ins, outs, linkFrom, linkOut, linkTo, firstPort, output, sourcePort, portNode, inLinks, outLinks}
+use Rattle.paper.specs.Map.{N, L, linkFrom, linkTo, firstPort, output, sourcePort, portNode, inLinks, outLinks}
 use Rattle.paper.specs.Accepted.{linksBetween}
 use Rattle.order_theory.specs.Sound.{Sound}
 use Rattle.order_theory.proofs.Ports.{ports-end}
 use Rattle.order_theory.proofs.Links.{in-known, out-known, in-times, out-times}
 use Rattle.lines_theory.specs.Weight.{weight}
 use Rattle.lines_theory.specs.Lined.{every}
-use Rattle.lines_theory.proofs.ListsMembers.{member-count}
+use Rattle.lines_theory.proofs.ListsMembers.{member-count, member-below}
 use Rattle.lines_theory.proofs.ListsWeight.{count-total, count-listed, count-upto-same}
 
 both-or-none : (s t : Bool) → one (s && t) ≡ cond t (one s + 0) 0
@@ -57,14 +55,9 @@ module _ {b : List ℕ} (s : Sound b) (v : ℕ) where
 
   -- a member of a node's outgoing links is a link from that node
   pub out-member : {k : ℕ} → List·Memᴰ k (outLinks b v) → (k < L b) × (linkFrom b k ≡ v)
-  out-member {k} m = go (decLt k (L b))
-    where
-      counted : 1 ≤ times k (outLinks b v)
-      counted = member-count (eqb k) m (eq-eqb k k refl)
-
-      go : Dec (k < L b) → (k < L b) × (linkFrom b k ≡ v)
-      go (yes h) = (h, one-eq-back (linkFrom b k) v (omega (arith, counted, out-times s v k h)))
-      go (no h) = absurd (omega (arith, counted, out-known b v k (omega arith)))
+  out-member {k} m =
+      let h = member-below (out-known b v) m in
+      (h, one-eq-back (linkFrom b k) v (omega (arith, member-count (eqb k) m (eq-eqb k k refl), out-times s v k h)))
 
 -- ---- the owner of a port
 

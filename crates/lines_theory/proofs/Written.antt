@@ -1,15 +1,15 @@
 -- Reading what is written: every section of an area that holds tables has the tables' contents.
 -- Rests on ListsLaid (lists laid one after the other) and on the sizes of the tables.
-use Prim.Native.Nat.{ℕ, zero, suc, _+_, _≤_, _<_}
+use Prim.Native.Nat.{ℕ, suc, _+_, _≤_, _<_}
 use native.Mathlib.Nat.{zero-add}
 use native.Mathlib.Omega.{arith}
 use mathlib.Core.Path.{_≡_, refl, sym, ap, _∙_, subst}
-use mathlib.Core.List.{List, [], _∷_, map, flatMap, flatten}
-use lib.ListN.{length, getD, take, drop}
-use lib.Seq.{sets, length-sets, take-all, ext-getD}
+use mathlib.Core.List.{List, [], map, flatten}
+use lib.ListN.{length, getD, take}
+use lib.Seq.{sets, length-sets, ext-getD}
 use Rattle.lists.specs.Lists.{sum, pad}
 use Rattle.lists.proofs.Sections.{getD-sets-in, length-part, getD-part}
-use Rattle.paper.specs.Map.{N, L, P}
+use Rattle.paper.specs.Map.{N, L}
 use Rattle.paper.specs.Lines.{Tables, tables}
 use Rattle.paper.specs.Area.{
   Section,
@@ -39,13 +39,10 @@ use Rattle.lines_theory.proofs.ListsLaid.{
   length-laid,
   getD-laid,
   laid-room,
-  length-starts,
-  starts-next,
-  starts-room,
   length-flatten,
-  getD-flatten,
   slice-is,
 }
+use Rattle.lines_theory.proofs.Starts.{length-starts, starts-next, starts-room, getD-flatten}
 
 -- preparing lays the tables into the area
 pub prepared-holds : (b a : List ℕ) → prepared b a ≡ holding b (tables b) a
@@ -73,6 +70,13 @@ before-eight Section.lineStarts = omega arith
 before-eight Section.nodesOfLines = omega arith
 before-eight Section.scratch = omega arith
 
+-- .. and ends within the area
+pub section-room : (b : List ℕ) (s : Section) → start b s + size b s ≤ W b
+unfolding start W
+section-room b s =
+    subst (λ (r : Section). sum (map (size b) (take (before s) sections)) + size b r ≤ sum (map (size b) sections)) (at-before s)
+    (laid-room (size b) sections (before s) lineCount (before-eight s))
+
 module _ {b : List ℕ} {t : Tables} (sized : Sized b t) where
   -- every section has room for its contents
   pub room : (s : Section) → length (contents t s) ≤ size b s
@@ -89,15 +93,9 @@ module _ {b : List ℕ} {t : Tables} (sized : Sized b t) where
   full : (s : Section) → length (pad (size b s) (contents t s)) ≡ size b s
   full s = length-pad (size b s) (contents t s) (room s)
 
-  laid-long : length (laid b t) ≡ W b
+  pub laid-long : length (laid b t) ≡ W b
   unfolding laid W
   laid-long = length-laid (λ s. pad (size b s) (contents t s)) (size b) full sections
-
-  section-room : (s : Section) → start b s + size b s ≤ W b
-  unfolding start W
-  section-room s =
-      subst (λ (r : Section). sum (map (size b) (take (before s) sections)) + size b r ≤ sum (map (size b) sections)) (at-before s)
-      (laid-room (λ r. pad (size b r) (contents t r)) (size b) full sections (before s) lineCount (before-eight s))
 
   laid-at : (s : Section) (i : ℕ) → i < size b s → getD (laid b t) (start b s + i) 0 ≡ getD (contents t s) i 0
   unfolding laid start
@@ -115,7 +113,7 @@ module _ {b : List ℕ} {t : Tables} (sized : Sized b t) where
     unfolding wordOf holding
     word-held s i h =
         ap (λ (k : ℕ). getD (sets a 0 (laid b t)) k 0) (sym (zero-add (start b s + i)))
-        ∙ getD-sets-in a 0 (laid b t) (start b s + i) 0 (omega (arith, section-room s, laid-long)) (omega (arith, laid-long))
+        ∙ getD-sets-in a 0 (laid b t) (start b s + i) 0 (omega (arith, section-room b s, laid-long)) (omega (arith, laid-long))
         ∙ laid-at s i h
 
     long : length (holding b t a) ≡ length a
@@ -135,7 +133,7 @@ module _ {b : List ℕ} {t : Tables} (sized : Sized b t) where
         (λ i l. getD-part (holding b t a) (start b Section.order) (N b) i 0 (omega (arith, whole)) ∙ word-held Section.order i (omega (arith, whole)))
       where
         whole : length (section b (holding b t a) Section.order) ≡ N b
-        whole = length-part (holding b t a) (start b Section.order) (N b) (omega (arith, long, section-room Section.order))
+        whole = length-part (holding b t a) (start b Section.order) (N b) (omega (arith, long, section-room b Section.order))
 
     pub position-held : (v : ℕ) → v < N b → position b (holding b t a) v ≡ getD (t .positions) v 0
     unfolding position contents size
@@ -164,7 +162,7 @@ module _ {b : List ℕ} {t : Tables} (sized : Sized b t) where
     unfolding part wordOf
     list-held s ls i f e h few same first last =
         slice-is (holding b t a) (getD ls i []) (start b s + f) (start b s + e) (omega (arith, starts-next 0 ls i h))
-        (omega (arith, long, section-room s, starts-next 0 ls i h, starts-room 0 ls i h))
+        (omega (arith, long, section-room b s, starts-next 0 ls i h, starts-room 0 ls i h))
         (λ j l. ap (λ (k : ℕ). getD (holding b t a) k 0) (over j) ∙ same (f + j) (omega (arith, starts-room 0 ls i h))
         ∙ ap (λ (k : ℕ). getD (flatten ls) (k + j) 0) first ∙ getD-flatten ls i j h l)
       where

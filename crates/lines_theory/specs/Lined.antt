@@ -8,7 +8,7 @@ use lib.ListN.{length}
 use lib.Dec.{eqb}
 use Rattle.lists.specs.Lists.{from, upto, keep, count, member, times, Rising}
 use Rattle.lists.specs.Bounds.{Below}
-use Rattle.paper.specs.Map.{N, L, linkFrom, linkTo, sourcePort, portNode, inLinks, outLinks}
+use Rattle.paper.specs.Map.{L, linkFrom, linkTo, sourcePort, portNode, inLinks, outLinks}
 use Rattle.paper.specs.Lines.{End, Placed, Frontier, Taking, takeAll, positionAbove, newLines, push}
 use Rattle.paper.specs.Accepted.{rightAfter, linksBetween}
 use Rattle.lines_theory.specs.Weight.{total, weight}

@@ -8,7 +8,7 @@ use lib.Seq.{sets}
 use Rattle.lists.specs.Lists.{sum, pad}
 use Rattle.paper.specs.Map.{N, L}
 use Rattle.paper.specs.Lines.{Tables}
-use Rattle.paper.specs.Area.{Section, sections, size, contents}
+use Rattle.paper.specs.Area.{sections, size, contents}
 
 pub record Sized (b : List ℕ) (t : Tables) : Type 0 where
   -- K ≤ L + N

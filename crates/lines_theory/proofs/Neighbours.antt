@@ -1,23 +1,17 @@
--- Rising lists and neighbours in a list, when one more element comes last.
--- Rests on the definitions (lists.Lists, paper.Accepted).
-use Prim.Native.Nat.{ℕ, zero, suc, _+_, _≤_, _<_}
-use native.Mathlib.Decide.{ℕ-discrete}
+-- What comes right after what on a line, when one more node comes last.
+-- Rests on paper.Accepted.
+use Prim.Native.Nat.{ℕ}
 use native.Mathlib.Omega.{arith}
-use mathlib.Core.Path.{_≡_, refl, sym, ap, ap₂, _∙_}
-use mathlib.Core.Bool.{Bool, true, false, cond, _&&_, _||_, and-false, or-false, or-assoc}
+use mathlib.Core.Path.{_≡_, refl, sym, ap, _∙_}
+use mathlib.Core.Bool.{Bool, false, _&&_, _||_, and-false, or-false, or-assoc}
 use mathlib.Core.List.{List, [], _∷_, _++_, map}
 use lib.Dec.{eqb}
 use borrow.Author.Tests.{ne-eqb}
-use Rattle.lists.specs.Lists.{keep, times, Rising, one}
+use Rattle.lists.specs.Lists.{times}
 use Rattle.lists.proofs.Count.{one-eq}
 use Rattle.paper.specs.Accepted.{rightAfter}
 
 module _ {A : Type 0} (g : A → ℕ) where
-  pub rising-more : (xs : List A) (x y : A) → Rising (map g (xs ++ (x ∷ []))) → g x < g y → Rising (map g ((xs ++ (x ∷ [])) ++ (y ∷ [])))
-  rising-more [] x y r h = (h, tt)
-  rising-more (a ∷ []) x y r h = (r .0, (h, tt))
-  rising-more (a ∷ (c ∷ xs)) x y r h = (r .0, rising-more (c ∷ xs) x y (r .1) h)
-
   -- what is right after what, with one more
   pub after-more : (u w : ℕ) (xs : List A) (x y : A)
       → rightAfter u w (map g ((xs ++ (x ∷ [])) ++ (y ∷ []))) ≡ (rightAfter u w (map g (xs ++ (x ∷ []))) || eqb (g x) u && eqb (g y) w)
