@@ -14,6 +14,7 @@ pub mod PlacingEnds
 pub mod Adjacent
 pub mod Placing
 pub mod Frontier
+pub mod Room
 pub mod PlacedAs
 pub mod Good
 pub mod Prepared

@@ -71,6 +71,11 @@ pub weight-le : (f : ℕ → Bool) (g h : ℕ → ℕ) (us vs : List ℕ) (n : �
     → weight f g us (upto n) ≤ weight f h vs (upto n)
 weight-le f g h us vs n l = total-le _ _ n (λ k m. cond-mono (f k) (l k m))
 
+-- where each stands at most once, no more than there are
+pub weight-few : (h : ℕ → ℕ) (us : List ℕ) (n : ℕ) → ((k : ℕ) → k < n → times (h k) us ≤ 1) → weight (λ (k : ℕ). true) h us (upto n) ≤ n
+weight-few h us n few =
+    omega (arith, total-le (λ k. times (h k) us) (λ k. 1) n few, total-ones (upto n), length-from 0 n)
+
 -- where each stands once, as many as there are
 pub weight-all : (h : ℕ → ℕ) (us : List ℕ) (n : ℕ) → ((k : ℕ) → k < n → times (h k) us ≡ 1) → weight (λ (k : ℕ). true) h us (upto n) ≡ n
 weight-all h us n e = total-same (λ k. times (h k) us) (λ k. 1) n e ∙ total-ones (upto n) ∙ length-from 0 n

@@ -1,20 +1,20 @@
 -- What the next node takes: one line from each linked output port, each a line that stands, none twice; and its list of lines.
 -- Rests on Taking, Pushing and Weighed; the invariant is Lined.
-use Prim.Native.Nat.{ℕ, _+_, _≤_, _<_}
+use Prim.Native.Nat.{ℕ, suc, _+_, _≤_, _<_}
 use native.Mathlib.Decide.{decLt}
 use native.Mathlib.Omega.{arith}
-use mathlib.Core.Path.{_≡_, sym, ap, _∙_}
+use mathlib.Core.Path.{_≡_, refl, sym, ap, _∙_}
 use mathlib.Core.Logic.{_⊎_, inl, inr}
 use mathlib.Core.Bool.{Bool}
 use mathlib.Core.List.{List, [], _∷_, _++_, map, List·Memᴰ, List·Memᴰ·not-nil}
-use lib.ListN.{length, length-append, length-map}
+use lib.ListN.{length, getD, take, length-append, length-map}
 use lib.Dec.{eqb}
 use Rattle.lists.specs.Lists.{upto, times}
 use Rattle.lists.specs.Bounds.{Below}
 use Rattle.lists.proofs.Upto.{count-append, length-from}
-use Rattle.lists.proofs.Count.{count-map, times-before, times-after, times-among}
+use Rattle.lists.proofs.Count.{one-eq, count-map, times-before, times-after, times-among, times-take, count-take-suc}
 use Rattle.paper.specs.Map.{L, linkFrom, linkTo, sourcePort, inLinks}
-use Rattle.paper.specs.Lines.{End, Frontier}
+use Rattle.paper.specs.Lines.{End, Frontier, Taking, takeAll}
 use Rattle.order_theory.specs.Sound.{Sound}
 use Rattle.lines_theory.specs.Lined.{on, sources, taking, oldLines, gain, fresh, level, newcomer, Standing, Lined, Next}
 use Rattle.lines_theory.proofs.ListsWeight.{weight-append, weight-le}
@@ -42,6 +42,21 @@ module _ {b us : List ℕ} {f : Frontier} {v : ℕ} (s : Sound b) (i : Lined b u
 
   pub taken-from : map (λ e. e .port) (taking b v f .taken) ≡ sources b v
   taken-from = taken-ports (sources b v) (record { taken = []; ends = f .ends }) port-enough
+
+  -- .. so at each of its linked inputs, in turn, an end stands at the port
+  pub port-stands : (j : ℕ) → j < length (sources b v)
+      → 1 ≤ times (getD (sources b v) j 0) (map (λ e. e .port) (takeAll (take j (sources b v)) (record { taken = []; ends = f .ends }) .ends))
+  port-stands j h =
+      let all = taken-times (λ e. e .port) p (take j (sources b v)) before in
+      let gone = ap (times p) (taken-ports (take j (sources b v)) before (λ q. omega (arith, port-enough q, times-take q j (sources b v)))) in
+      omega
+      (arith, all, gone, port-enough p, times-take p (suc j) (sources b v), count-take-suc (eqb p) (sources b v) j h, one-eq p p refl)
+    where
+      p : ℕ
+      p = getD (sources b v) j 0
+
+      before : Taking
+      before = record { taken = []; ends = f .ends }
 
   pub taken-length : length (taking b v f .taken) ≡ length (inLinks b v)
   taken-length =
