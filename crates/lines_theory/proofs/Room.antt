@@ -1,6 +1,6 @@
 -- There is room for the lines at every turn: no more lines than links and nodes, no more entries than links and lines.
 -- Rests on Frontier.
-use Prim.Native.Nat.{ℕ, _+_, _≤_, _<_}
+use Prim.Native.Nat.{ℕ, _+_, _≤_}
 use native.Mathlib.Omega.{arith}
 use mathlib.Core.List.{List}
 use lib.ListN.{length, take, length-take}
