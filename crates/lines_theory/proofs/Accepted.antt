@@ -18,18 +18,7 @@ use Rattle.lines_theory.proofs.ListsLaid.{length-flatten, below-flatten
 use Rattle.lines_theory.proofs.Starts.{starts-first, starts-next, starts-last}
 use Rattle.lines_theory.proofs.ListsWeight.{count-upto-same}
 use Rattle.lines_theory.proofs.ListsMembers.{map-below}
-use Rattle.lines_theory.proofs.Written.{
-  prepared-holds,
-  count-held,
-  order-held,
-  position-held,
-  node-starts-held,
-  line-starts-held,
-  line-entries-held,
-  node-entries-held,
-  lines-held,
-  nodes-held,
-}
+use Rattle.lines_theory.proofs.Written.{prepared-holds, count-held, order-held, position-held, node-starts-held, line-starts-held, line-entries-held, node-entries-held, lines-held, nodes-held}
 use Rattle.lines_theory.proofs.Good.{tables-good}
 
 -- a start list that reads as the starts of lists, none of them empty

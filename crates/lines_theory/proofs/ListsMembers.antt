@@ -1,13 +1,12 @@
 -- Membership in a list of anything, joined to counts: what is a member counts, and what counts has a member.
 -- Rests on mathlib's `List·Memᴰ` and on lists.Count.
-use Prim.Native.Nat.{ℕ, zero, suc, _+_, _≤_, _<_}
+use Prim.Native.Nat.{ℕ, _+_, _≤_, _<_}
 use native.Mathlib.Decide.{ℕ-discrete, decLt}
 use native.Mathlib.Omega.{arith}
 use mathlib.Core.Path.{_≡_, refl, ap, ap₂}
 use mathlib.Core.Logic.{_⊎_, inl, inr}
 use mathlib.Core.Bool.{Bool, true, false, cond, _||_}
 use mathlib.Core.List.{List, [], _∷_, map, List·Memᴰ, List·Memᴰ·head, List·Memᴰ·tail, List·Memᴰ·cases-cons}
-use lib.ListN.{length, getD}
 use lib.Dec.{eqb}
 use borrow.Author.Tests.{eq-eqb}
 use Rattle.lists.specs.Lists.{one, keep, count, member, times}
@@ -82,12 +81,6 @@ module _ {A : Type 0} where
           → times n (map g (cond t (x ∷ keep f xs) (keep f xs))) ≤ one (eqb n (g x)) + times n (map g xs)
       go true ih = omega arith
       go false ih = omega arith
-
-  -- an element read within the list is a member
-  pub member-at : (d : A) (xs : List A) (i : ℕ) → i < length xs → List·Memᴰ (getD xs i d) xs
-  member-at d [] i h = absurd (omega arith)
-  member-at d (x ∷ xs) zero h = List·Memᴰ·head refl
-  member-at d (x ∷ xs) (suc i) h = List·Memᴰ·tail (member-at d xs i (omega arith))
 
 -- ---- the test for a number
 

@@ -21,19 +21,7 @@ use Rattle.lines_theory.proofs.ListsWeight.{total-append, weight-append
 use Rattle.lines_theory.proofs.ListsRising.{rising-more}
 use Rattle.lines_theory.proofs.Pushing.{above-met}
 use Rattle.lines_theory.proofs.Weighed.{in-length, out-length}
-use Rattle.lines_theory.proofs.Taken.{
-  taken-stood,
-  old-length,
-  fresh-length,
-  fresh-among,
-  lines-times,
-  lines-known,
-  lines-apart,
-  lines-length,
-  TakenAs,
-  taken-or-new,
-  level-few,
-}
+use Rattle.lines_theory.proofs.Taken.{taken-stood, old-length, fresh-length, fresh-among, lines-times, lines-known, lines-apart, lines-length, TakenAs, taken-or-new, level-few}
 use Rattle.lines_theory.proofs.Adjacent.{on-here, on-away, on-more, adjacent-new, adjacent-old}
 use Rattle.lines_theory.proofs.PlacingEnds.{lines-enough, balance-kept, once-kept, standing-kept}
 

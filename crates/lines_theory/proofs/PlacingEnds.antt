@@ -15,35 +15,12 @@ use Rattle.paper.specs.Map.{L, linkFrom, linkTo, sourcePort, portNode, inLinks,
 use Rattle.paper.specs.Lines.{End, Frontier}
 use Rattle.order_theory.specs.Sound.{Sound}
 use Rattle.lines_theory.specs.Weight.{weight}
-use Rattle.lines_theory.specs.Lined.{
-  on,
-  targets,
-  taking,
-  oldLines,
-  gain,
-  fresh,
-  level,
-  newcomer,
-  made,
-  grown,
-  Standing,
-  Lined,
-  Next,
-}
+use Rattle.lines_theory.specs.Lined.{on, targets, taking, oldLines, gain, fresh, level, newcomer, made, grown, Standing, Lined, Next}
 use Rattle.lines_theory.proofs.ListsWeight.{weight-append}
 use Rattle.lines_theory.proofs.ListsMembers.{MemberFor, member-for, member-times}
 use Rattle.lines_theory.proofs.Pushing.{push-times, push-there, made-ports, made-lines, made-position, Enough, enough}
 use Rattle.lines_theory.proofs.Weighed.{in-weight, out-weight, out-member, owner-is}
-use Rattle.lines_theory.proofs.Taken.{
-  left-stood,
-  ports-split,
-  old-length,
-  fresh-length,
-  lines-known,
-  lines-apart,
-  lines-length,
-  level-few,
-}
+use Rattle.lines_theory.proofs.Taken.{left-stood, ports-split, old-length, fresh-length, lines-known, lines-apart, lines-length, level-few}
 use Rattle.lines_theory.proofs.Adjacent.{on-here, on-away}
 
 module _ {b us : List ℕ} {f : Frontier} {v : ℕ} (s : Sound b) (i : Lined b us f) (n : Next b us v) where

@@ -10,19 +10,7 @@ use Rattle.paper.specs.Lines.{tablesOf, tables}
 use Rattle.paper.specs.Area.{Section, W, wordOf, K, orderOf, position, linesOf, nodesOf, starts, written, prepared}
 use Rattle.paper.specs.Refusals.{passed, rule45, rule6}
 use Rattle.lines_theory.specs.Sized.{Sized, laid}
-use Rattle.lines_theory.proofs.Written.{
-  prepared-holds,
-  laid-long,
-  count-held,
-  order-held,
-  position-held,
-  node-starts-held,
-  line-starts-held,
-  line-entries-held,
-  node-entries-held,
-  lines-held,
-  nodes-held,
-}
+use Rattle.lines_theory.proofs.Written.{prepared-holds, laid-long, count-held, order-held, position-held, node-starts-held, line-starts-held, line-entries-held, node-entries-held, lines-held, nodes-held}
 use Rattle.lines_theory.proofs.Good.{tables-good}
 
 module _ (b : List ℕ) (links : rule45 b ≡ passed) (cycle : rule6 b ≡ passed) where

@@ -11,37 +11,9 @@ use Rattle.lists.specs.Lists.{sum, pad}
 use Rattle.lists.proofs.Sections.{getD-sets-in, length-part, getD-part}
 use Rattle.paper.specs.Map.{N, L}
 use Rattle.paper.specs.Lines.{Tables, tables}
-use Rattle.paper.specs.Area.{
-  Section,
-  lineCount,
-  sections,
-  size,
-  before,
-  start,
-  W,
-  wordOf,
-  section,
-  part,
-  K,
-  orderOf,
-  position,
-  linesOf,
-  nodesOf,
-  starts,
-  contents,
-  prepared,
-  written,
-}
+use Rattle.paper.specs.Area.{Section, lineCount, sections, size, before, start, W, wordOf, section, part, K, orderOf, position, linesOf, nodesOf, starts, contents, prepared, written}
 use Rattle.lines_theory.specs.Sized.{Sized, laid, holding}
-use Rattle.lines_theory.proofs.ListsLaid.{
-  length-pad,
-  getD-pad,
-  length-laid,
-  getD-laid,
-  laid-room,
-  length-flatten,
-  slice-is,
-}
+use Rattle.lines_theory.proofs.ListsLaid.{length-pad, getD-pad, length-laid, getD-laid, laid-room, length-flatten, slice-is}
 use Rattle.lines_theory.proofs.Starts.{length-starts, starts-next, starts-room, getD-flatten}
 
 -- preparing lays the tables into the area
