@@ -1,0 +1,156 @@
+-- Reading what is written: every section of an area that holds tables has the tables' contents.
+-- Rests on ListsLaid (lists laid one after the other) and on the sizes of the tables.
+use Prim.Native.Nat.{ℕ, suc, _+_, _≤_, _<_}
+use native.Mathlib.Nat.{zero-add}
+use native.Mathlib.Omega.{arith}
+use mathlib.Core.Path.{_≡_, refl, sym, ap, _∙_, subst}
+use mathlib.Core.List.{List, [], map, flatten}
+use lib.ListN.{length, getD, take}
+use lib.Seq.{sets, length-sets, ext-getD}
+use Rattle.lists.specs.Lists.{sum, pad}
+use Rattle.lists.proofs.Sections.{getD-sets-in, length-part, getD-part}
+use Rattle.paper.specs.Map.{N, L}
+use Rattle.paper.specs.Lines.{Tables, tables}
+use Rattle.paper.specs.Area.{Section, lineCount, sections, size, before, start, W, wordOf, section, part, K, orderOf, position, linesOf, nodesOf, starts, contents, prepared, written}
+use Rattle.lines_theory.specs.Sized.{Sized, laid, holding}
+use Rattle.lines_theory.proofs.ListsLaid.{length-pad, getD-pad, length-laid, getD-laid, laid-room, length-flatten, slice-is}
+use Rattle.lines_theory.proofs.Starts.{length-starts, starts-next, starts-room, getD-flatten}
+
+-- preparing lays the tables into the area
+pub prepared-holds : (b a : List ℕ) → prepared b a ≡ holding b (tables b) a
+unfolding prepared written holding laid
+prepared-holds b a = refl
+
+-- a section stands in the list of sections where it says
+at-before : (s : Section) → getD sections (before s) lineCount ≡ s
+at-before Section.lineCount = refl
+at-before Section.order = refl
+at-before Section.positions = refl
+at-before Section.nodeStarts = refl
+at-before Section.linesOfNodes = refl
+at-before Section.lineStarts = refl
+at-before Section.nodesOfLines = refl
+at-before Section.scratch = refl
+
+before-eight : (s : Section) → before s < length sections
+before-eight Section.lineCount = omega arith
+before-eight Section.order = omega arith
+before-eight Section.positions = omega arith
+before-eight Section.nodeStarts = omega arith
+before-eight Section.linesOfNodes = omega arith
+before-eight Section.lineStarts = omega arith
+before-eight Section.nodesOfLines = omega arith
+before-eight Section.scratch = omega arith
+
+-- .. and ends within the area
+pub section-room : (b : List ℕ) (s : Section) → start b s + size b s ≤ W b
+unfolding start W
+section-room b s =
+    subst (λ (r : Section). sum (map (size b) (take (before s) sections)) + size b r ≤ sum (map (size b) sections)) (at-before s)
+    (laid-room (size b) sections (before s) lineCount (before-eight s))
+
+module _ {b : List ℕ} {t : Tables} (sized : Sized b t) where
+  -- every section has room for its contents
+  pub room : (s : Section) → length (contents t s) ≤ size b s
+  unfolding size contents
+  room Section.lineCount = omega arith
+  room Section.order = omega (arith, sized .ordered)
+  room Section.positions = omega (arith, sized .placed)
+  room Section.nodeStarts = omega (arith, sized .nodes, length-starts 0 (t .linesOfNodes))
+  room Section.linesOfNodes = omega (arith, sized .few, sized .lineEntries, length-flatten (t .linesOfNodes))
+  room Section.lineStarts = omega (arith, sized .few, sized .lines, length-starts 0 (t .nodesOfLines))
+  room Section.nodesOfLines = omega (arith, sized .few, sized .nodeEntries, length-flatten (t .nodesOfLines))
+  room Section.scratch = omega arith
+
+  full : (s : Section) → length (pad (size b s) (contents t s)) ≡ size b s
+  full s = length-pad (size b s) (contents t s) (room s)
+
+  pub laid-long : length (laid b t) ≡ W b
+  unfolding laid W
+  laid-long = length-laid (λ s. pad (size b s) (contents t s)) (size b) full sections
+
+  laid-at : (s : Section) (i : ℕ) → i < size b s → getD (laid b t) (start b s + i) 0 ≡ getD (contents t s) i 0
+  unfolding laid start
+  laid-at s i h =
+      getD-laid filled (size b) full sections (before s) lineCount i (before-eight s) (rw (at-before s) h)
+      ∙ ap (λ (r : Section). getD (filled r) i 0) (at-before s)
+      ∙ getD-pad (size b s) (contents t s) i
+    where
+      filled : Section → List ℕ
+      filled r = pad (size b r) (contents t r)
+
+  module _ (a : List ℕ) (fits : W b ≤ length a) where
+    -- word i of a section is word i of its contents
+    pub word-held : (s : Section) (i : ℕ) → i < size b s → wordOf b (holding b t a) s i ≡ getD (contents t s) i 0
+    unfolding wordOf holding
+    word-held s i h =
+        ap (λ (k : ℕ). getD (sets a 0 (laid b t)) k 0) (sym (zero-add (start b s + i)))
+        ∙ getD-sets-in a 0 (laid b t) (start b s + i) 0 (omega (arith, section-room b s, laid-long)) (omega (arith, laid-long))
+        ∙ laid-at s i h
+
+    long : length (holding b t a) ≡ length a
+    unfolding holding
+    long = length-sets a 0 (laid b t)
+
+    -- ---- the tables, one by one
+
+    pub count-held : K b (holding b t a) ≡ t .count
+    unfolding K contents size
+    count-held = word-held Section.lineCount 0 (omega arith)
+
+    pub order-held : orderOf b (holding b t a) ≡ t .order
+    unfolding orderOf section wordOf contents size
+    order-held =
+        ext-getD 0 (section b (holding b t a) Section.order) (t .order) (whole ∙ sym (sized .ordered))
+        (λ i l. getD-part (holding b t a) (start b Section.order) (N b) i 0 (omega (arith, whole)) ∙ word-held Section.order i (omega (arith, whole)))
+      where
+        whole : length (section b (holding b t a) Section.order) ≡ N b
+        whole = length-part (holding b t a) (start b Section.order) (N b) (omega (arith, long, section-room b Section.order))
+
+    pub position-held : (v : ℕ) → v < N b → position b (holding b t a) v ≡ getD (t .positions) v 0
+    unfolding position contents size
+    position-held v h = word-held Section.positions v h
+
+    pub node-starts-held : (v : ℕ) → v ≤ N b → wordOf b (holding b t a) Section.nodeStarts v ≡ getD (starts 0 (t .linesOfNodes)) v 0
+    unfolding contents size
+    node-starts-held v h = word-held Section.nodeStarts v (omega arith)
+
+    pub line-starts-held : (l : ℕ) → l ≤ t .count → wordOf b (holding b t a) Section.lineStarts l ≡ getD (starts 0 (t .nodesOfLines)) l 0
+    unfolding contents size
+    line-starts-held l h = word-held Section.lineStarts l (omega (arith, sized .few))
+
+    pub line-entries-held : (i : ℕ) → i < L b + t .count → wordOf b (holding b t a) Section.linesOfNodes i ≡ getD (flatten (t .linesOfNodes)) i 0
+    unfolding contents size
+    line-entries-held i h = word-held Section.linesOfNodes i (omega (arith, sized .few))
+
+    pub node-entries-held : (i : ℕ) → i < L b + t .count → wordOf b (holding b t a) Section.nodesOfLines i ≡ getD (flatten (t .nodesOfLines)) i 0
+    unfolding contents size
+    node-entries-held i h = word-held Section.nodesOfLines i (omega (arith, sized .few))
+
+    -- a list in its section, between two starts
+    list-held : (s : Section) (ls : List (List ℕ)) (i f e : ℕ) → i < length ls → sum (map length ls) ≤ size b s
+        → ((j : ℕ) → j < sum (map length ls) → wordOf b (holding b t a) s j ≡ getD (flatten ls) j 0)
+        → f ≡ getD (starts 0 ls) i 0 → e ≡ getD (starts 0 ls) (suc i) 0 → part b (holding b t a) s f e ≡ getD ls i []
+    unfolding part wordOf
+    list-held s ls i f e h few same first last =
+        slice-is (holding b t a) (getD ls i []) (start b s + f) (start b s + e) (omega (arith, starts-next 0 ls i h))
+        (omega (arith, long, section-room b s, starts-next 0 ls i h, starts-room 0 ls i h))
+        (λ j l. ap (λ (k : ℕ). getD (holding b t a) k 0) (over j) ∙ same (f + j) (omega (arith, starts-room 0 ls i h))
+        ∙ ap (λ (k : ℕ). getD (flatten ls) (k + j) 0) first ∙ getD-flatten ls i j h l)
+      where
+        over : (j : ℕ) → start b s + f + j ≡ start b s + (f + j)
+        over j = omega arith
+
+    pub lines-held : (v : ℕ) → v < N b → linesOf b (holding b t a) v ≡ getD (t .linesOfNodes) v []
+    unfolding linesOf size
+    lines-held v h =
+        list-held Section.linesOfNodes (t .linesOfNodes) v _ _ (omega (arith, sized .nodes)) (omega (arith, sized .few, sized .lineEntries))
+        (λ j l. line-entries-held j (omega (arith, sized .lineEntries))) (node-starts-held v (omega arith))
+        (node-starts-held (suc v) (omega arith))
+
+    pub nodes-held : (l : ℕ) → l < t .count → nodesOf b (holding b t a) l ≡ getD (t .nodesOfLines) l []
+    unfolding nodesOf size
+    nodes-held l h =
+        list-held Section.nodesOfLines (t .nodesOfLines) l _ _ (omega (arith, sized .lines)) (omega (arith, sized .few, sized .nodeEntries))
+        (λ j m. node-entries-held j (omega (arith, sized .nodeEntries))) (line-starts-held l (omega arith))
+        (line-starts-held (suc l) (omega arith))

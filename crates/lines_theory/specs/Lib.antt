@@ -1,0 +1,4 @@
+pub mod Sized
+pub mod Weight
+pub mod Lined
+pub mod Good
