@@ -14,10 +14,10 @@ use Rattle.paper.specs.Accepted.{rightAfter, linesBetween, Starts, Accepted}
 use Rattle.paper.specs.Refusals.{passed, rule45, rule6}
 use Rattle.lines_theory.specs.Sized.{holding}
 use Rattle.lines_theory.specs.Good.{Good, positionIn, nodesIn}
-use Rattle.lines_theory.proofs.ListsLaid.{length-flatten, below-flatten}
+use Rattle.lists.proofs.Laid.{length-flatten, below-flatten}
 use Rattle.lines_theory.proofs.Starts.{starts-first, starts-next, starts-last}
-use Rattle.lines_theory.proofs.ListsWeight.{count-upto-same}
-use Rattle.lines_theory.proofs.ListsMembers.{map-below}
+use Rattle.lists.proofs.Weight.{count-upto-same}
+use Rattle.lists.proofs.Members.{map-below}
 use Rattle.lines_theory.proofs.Written.{prepared-holds, count-held, order-held, position-held, node-starts-held, line-starts-held, line-entries-held, node-entries-held, lines-held, nodes-held}
 use Rattle.lines_theory.proofs.Good.{tables-good}
 

@@ -1,5 +1,5 @@
 -- One node more on its lines, and the links into it: as many as lines on which it comes right after their sources.
--- Rests on Taken, Weighed and ListsNeighbours.
+-- Rests on Taken, Weighed and Neighbours.
 use Prim.Native.Nat.{ℕ, _+_, _≤_, _<_}
 use native.Mathlib.Decide.{decLt}
 use native.Mathlib.Omega.{arith}
@@ -17,8 +17,8 @@ use Rattle.paper.specs.Lines.{End, Placed, Frontier}
 use Rattle.paper.specs.Accepted.{rightAfter, linksBetween}
 use Rattle.order_theory.specs.Sound.{Sound}
 use Rattle.lines_theory.specs.Lined.{on, nodesOn, taking, oldLines, gain, fresh, newcomer, Lined, Next}
-use Rattle.lines_theory.proofs.ListsWeight.{count-listed, count-from-none}
-use Rattle.lines_theory.proofs.ListsMembers.{count-members, member-yes, member-no, times-member, times-kept}
+use Rattle.lists.proofs.Weight.{count-listed, count-from-none}
+use Rattle.lists.proofs.Members.{count-members, member-yes, member-no, times-member, times-kept}
 use Rattle.lines_theory.proofs.Neighbours.{after-more, after-apart, after-none}
 use Rattle.lines_theory.proofs.Weighed.{links-between}
 use Rattle.lines_theory.proofs.Taken.{unused, taken-from, taken-stood, lines-known, lines-apart}

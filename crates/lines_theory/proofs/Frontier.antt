@@ -18,7 +18,7 @@ use Rattle.order_theory.specs.Sound.{Sound}
 use Rattle.order_theory.proofs.Queued.{queued}
 use Rattle.order_theory.proofs.Order.{ordered-times}
 use Rattle.lines_theory.specs.Lined.{every, Lined, Next}
-use Rattle.lines_theory.proofs.ListsWeight.{weight-none}
+use Rattle.lists.proofs.Weight.{weight-none}
 use Rattle.lines_theory.proofs.Placing.{place-grows, grown-lined}
 
 nothing-lined : (b : List ℕ) → Lined b [] (record { ends = []; placed = []; count = 0 })

@@ -1,5 +1,5 @@
 -- The tables of a map without refusal are good: "Accepted tables", sentence by sentence, before they are laid into the area.
--- Rests on Frontier (the invariant after all nodes), PlacedAs and ListsOnce.
+-- Rests on Frontier (the invariant after all nodes), PlacedAs and lists.Once.
 use Prim.Native.Nat.{ℕ, _+_, _<_}
 use native.Mathlib.Decide.{decLt}
 use native.Mathlib.Omega.{arith}
@@ -21,13 +21,13 @@ use Rattle.order_theory.specs.Sound.{Sound}
 use Rattle.order_theory.specs.Cycle.{AllOrdered}
 use Rattle.order_theory.proofs.Order.{ordered-times, ordered-known, order-forward}
 use Rattle.order_theory.proofs.Refusals.{sound, rule6-passes}
-use Rattle.lines_theory.specs.Weight.{total}
+use Rattle.lists.specs.Weight.{total}
 use Rattle.lines_theory.specs.Lined.{on, nodesOn, Listed, Lined}
 use Rattle.lines_theory.specs.Sized.{Sized}
 use Rattle.lines_theory.specs.Good.{Good, positionIn, linesIn, nodesIn}
-use Rattle.lines_theory.proofs.ListsWeight.{count-total, count-upto-same, length-listed, weight-all}
-use Rattle.lines_theory.proofs.ListsMembers.{member-times, times-member, times-kept, keep-there, map-members}
-use Rattle.lines_theory.proofs.ListsOnce.{total-members, total-swap, total-once}
+use Rattle.lists.proofs.Weight.{count-total, count-upto-same, length-listed, weight-all}
+use Rattle.lists.proofs.Members.{member-times, times-member, times-kept, keep-there, map-members}
+use Rattle.lists.proofs.Once.{total-members, total-swap, total-once}
 use Rattle.lines_theory.proofs.PlacedAs.{found-placed, placed-itself, on-line}
 use Rattle.lines_theory.proofs.Frontier.{all-lined}
 

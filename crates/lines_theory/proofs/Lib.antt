@@ -1,8 +1,3 @@
-pub mod ListsLaid
-pub mod ListsWeight
-pub mod ListsMembers
-pub mod ListsOnce
-pub mod ListsRising
 pub mod Starts
 pub mod Written
 pub mod Neighbours

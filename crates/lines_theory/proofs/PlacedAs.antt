@@ -1,5 +1,5 @@
 -- Looking a node up among the nodes placed, where each stands once.
--- Rests on ListsMembers.
+-- Rests on lists.Members.
 use Prim.Native.Nat.{ℕ, _≤_}
 use native.Mathlib.Omega.{arith}
 use mathlib.Core.Path.{_≡_, refl, sym, ap, _∙_}
@@ -11,7 +11,7 @@ use Rattle.lists.specs.Lists.{one, member, times}
 use Rattle.lists.proofs.Count.{one-eq, eqb-sym}
 use Rattle.paper.specs.Lines.{Placed, placedAs}
 use Rattle.lines_theory.specs.Lined.{on, nodesOn}
-use Rattle.lines_theory.proofs.ListsMembers.{member-times, times-kept}
+use Rattle.lists.proofs.Members.{member-times, times-kept}
 
 -- a node that is placed is found
 pub found-placed : (v : ℕ) (xs : List Placed) → 1 ≤ times v (map (λ x. x .node) xs) → List·Memᴰ (placedAs v xs) xs

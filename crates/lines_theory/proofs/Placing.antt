@@ -15,10 +15,10 @@ use Rattle.paper.specs.Map.{L, linkFrom, linkTo}
 use Rattle.paper.specs.Lines.{Placed, Frontier, place}
 use Rattle.paper.specs.Accepted.{rightAfter, linksBetween}
 use Rattle.order_theory.specs.Sound.{Sound}
-use Rattle.lines_theory.specs.Weight.{total, weight}
+use Rattle.lists.specs.Weight.{total, weight}
 use Rattle.lines_theory.specs.Lined.{on, nodesOn, every, taking, newcomer, grown, Standing, Listed, Lined, Next}
-use Rattle.lines_theory.proofs.ListsWeight.{total-append, weight-append}
-use Rattle.lines_theory.proofs.ListsRising.{rising-more}
+use Rattle.lists.proofs.Weight.{total-append, weight-append}
+use Rattle.lists.proofs.Rising.{rising-more}
 use Rattle.lines_theory.proofs.Pushing.{above-met}
 use Rattle.lines_theory.proofs.Weighed.{in-length, out-length}
 use Rattle.lines_theory.proofs.Taken.{taken-stood, old-length, fresh-length, fresh-among, lines-times, lines-known, lines-apart, lines-length, TakenAs, taken-or-new, level-few}

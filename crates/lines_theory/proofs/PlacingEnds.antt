@@ -14,10 +14,10 @@ use Rattle.lists.proofs.Count.{count-map}
 use Rattle.paper.specs.Map.{L, linkFrom, linkTo, sourcePort, portNode, inLinks, outLinks}
 use Rattle.paper.specs.Lines.{End, Frontier}
 use Rattle.order_theory.specs.Sound.{Sound}
-use Rattle.lines_theory.specs.Weight.{weight}
+use Rattle.lists.specs.Weight.{weight}
 use Rattle.lines_theory.specs.Lined.{on, targets, taking, oldLines, gain, fresh, level, newcomer, made, grown, Standing, Lined, Next}
-use Rattle.lines_theory.proofs.ListsWeight.{weight-append}
-use Rattle.lines_theory.proofs.ListsMembers.{MemberFor, member-for, member-times}
+use Rattle.lists.proofs.Weight.{weight-append}
+use Rattle.lists.proofs.Members.{MemberFor, member-for, member-times}
 use Rattle.lines_theory.proofs.Pushing.{push-times, push-there, made-ports, made-lines, made-position, Enough, enough}
 use Rattle.lines_theory.proofs.Weighed.{in-weight, out-weight, out-member, owner-is}
 use Rattle.lines_theory.proofs.Taken.{left-stood, ports-split, old-length, fresh-length, lines-known, lines-apart, lines-length, level-few}

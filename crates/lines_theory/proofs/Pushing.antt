@@ -1,5 +1,5 @@
 -- Pushing line ends, the position of a node, and how many new lines it gets.
--- Rests on the definitions (paper.Lines) and on ListsMembers.
+-- Rests on the definitions (paper.Lines) and on lists.Members.
 use Prim.Native.Nat.{ℕ, suc, _+_, _-_, _≤_, _<_}
 use native.Mathlib.Omega.{arith}
 use mathlib.Core.Path.{_≡_, refl, ap}

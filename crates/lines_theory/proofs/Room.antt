@@ -11,8 +11,8 @@ use Rattle.paper.specs.Order.{order}
 use Rattle.paper.specs.Lines.{frontierAfter}
 use Rattle.order_theory.specs.Sound.{Sound}
 use Rattle.order_theory.proofs.Order.{ordered-times, ordered-room}
-use Rattle.lines_theory.specs.Weight.{total}
-use Rattle.lines_theory.proofs.ListsWeight.{weight-few}
+use Rattle.lists.specs.Weight.{total}
+use Rattle.lists.proofs.Weight.{weight-few}
 use Rattle.lines_theory.proofs.Frontier.{lined}
 
 module _ {b : List ℕ} (s : Sound b) (t : ℕ) (h : t ≤ length (order b)) where

@@ -17,8 +17,8 @@ use Rattle.paper.specs.Map.{L, linkFrom, linkTo, sourcePort, inLinks}
 use Rattle.paper.specs.Lines.{End, Frontier, Taking, takeAll}
 use Rattle.order_theory.specs.Sound.{Sound}
 use Rattle.lines_theory.specs.Lined.{on, sources, taking, oldLines, gain, fresh, level, newcomer, Standing, Lined, Next}
-use Rattle.lines_theory.proofs.ListsWeight.{weight-append, weight-le}
-use Rattle.lines_theory.proofs.ListsMembers.{member-for, below-members, keep-nothing, member-no}
+use Rattle.lists.proofs.Weight.{weight-append, weight-le}
+use Rattle.lists.proofs.Members.{member-for, below-members, keep-nothing, member-no}
 use Rattle.lines_theory.proofs.Taking.{taken-times, taken-ports, taken-there, left-there}
 use Rattle.lines_theory.proofs.Pushing.{above-few}
 use Rattle.lines_theory.proofs.Weighed.{in-weight}

@@ -1,5 +1,5 @@
 -- Taking line ends: nothing is lost, and where enough ends stand each port asked gives one.
--- Rests on the definitions of taking (paper.Lines) and on ListsMembers.
+-- Rests on the definitions of taking (paper.Lines) and on lists.Members.
 use Prim.Native.Nat.{ℕ, _+_, _≤_}
 use native.Mathlib.Omega.{arith}
 use mathlib.Core.Path.{_≡_, refl, sym, ap, _∙_}

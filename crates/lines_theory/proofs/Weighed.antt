@@ -1,5 +1,5 @@
 -- The links of a node as weights over all links, and the owner of a link's output port.
--- Rests on order_theory (each link stands once among its node's links) and ListsWeight.
+-- Rests on order_theory (each link stands once among its node's links) and lists.Weight.
 use Prim.Native.Nat.{ℕ, suc, _+_, _≤_, _<_}
 use native.Mathlib.Omega.{arith}
 use mathlib.Core.Path.{_≡_, refl, sym, ap, _∙_}
@@ -17,10 +17,10 @@ use Rattle.paper.specs.Accepted.{linksBetween}
 use Rattle.order_theory.specs.Sound.{Sound}
 use Rattle.order_theory.proofs.Ports.{ports-end}
 use Rattle.order_theory.proofs.Links.{in-known, out-known, in-times, out-times}
-use Rattle.lines_theory.specs.Weight.{weight}
+use Rattle.lists.specs.Weight.{weight}
 use Rattle.lines_theory.specs.Lined.{every}
-use Rattle.lines_theory.proofs.ListsMembers.{member-count, member-below}
-use Rattle.lines_theory.proofs.ListsWeight.{count-total, count-listed, count-upto-same}
+use Rattle.lists.proofs.Members.{member-count, member-below}
+use Rattle.lists.proofs.Weight.{count-total, count-listed, count-upto-same}
 
 both-or-none : (s t : Bool) → one (s && t) ≡ cond t (one s + 0) 0
 both-or-none true true = refl

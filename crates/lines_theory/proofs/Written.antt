@@ -1,5 +1,5 @@
 -- Reading what is written: every section of an area that holds tables has the tables' contents.
--- Rests on ListsLaid (lists laid one after the other) and on the sizes of the tables.
+-- Rests on lists.Laid (lists laid one after the other) and on the sizes of the tables.
 use Prim.Native.Nat.{ℕ, suc, _+_, _≤_, _<_}
 use native.Mathlib.Nat.{zero-add}
 use native.Mathlib.Omega.{arith}
@@ -13,7 +13,7 @@ use Rattle.paper.specs.Map.{N, L}
 use Rattle.paper.specs.Lines.{Tables, tables}
 use Rattle.paper.specs.Area.{Section, lineCount, sections, size, before, start, W, wordOf, section, part, K, orderOf, position, linesOf, nodesOf, starts, contents, prepared, written}
 use Rattle.lines_theory.specs.Sized.{Sized, laid, holding}
-use Rattle.lines_theory.proofs.ListsLaid.{length-pad, getD-pad, length-laid, getD-laid, laid-room, length-flatten, slice-is}
+use Rattle.lists.proofs.Laid.{length-pad, getD-pad, length-laid, getD-laid, laid-room, length-flatten, slice-is}
 use Rattle.lines_theory.proofs.Starts.{length-starts, starts-next, starts-room, getD-flatten}
 
 -- preparing lays the tables into the area

@@ -1,4 +1,3 @@
 pub mod Sized
-pub mod Weight
 pub mod Lined
 pub mod Good

@@ -11,7 +11,7 @@ use Rattle.lists.specs.Bounds.{Below}
 use Rattle.paper.specs.Map.{L, linkFrom, linkTo, sourcePort, portNode, inLinks, outLinks}
 use Rattle.paper.specs.Lines.{End, Placed, Frontier, Taking, takeAll, positionAbove, newLines, push}
 use Rattle.paper.specs.Accepted.{rightAfter, linksBetween}
-use Rattle.lines_theory.specs.Weight.{total, weight}
+use Rattle.lists.specs.Weight.{total, weight}
 
 -- the placed nodes that list a line, in order
 abbrev pub on : ℕ → List Placed → List Placed

@@ -7,3 +7,8 @@ pub mod Places
 pub mod Extends
 pub mod First
 pub mod AllAny
+pub mod Laid
+pub mod Members
+pub mod Rising
+pub mod Weight
+pub mod Once

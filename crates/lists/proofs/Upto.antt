@@ -8,10 +8,10 @@ use mathlib.Core.Path.{_≡_, refl, sym, ap, ap₂, _∙_}
 use mathlib.Core.Logic.{_≢_}
 use mathlib.Core.Bool.{Bool, true, false, cond}
 use mathlib.Core.List.{List, [], _∷_, _++_, map, flatMap, append-assoc, map-append}
-use lib.ListN.{replicate, length, getD, set, length-set, length-map, length-append, List·getD-map}
+use lib.ListN.{replicate, length, getD, set, length-set, length-map}
 use lib.Seq.{sets, ext-getD, getD-set-same, getD-set-other}
 use Rattle.lists.proofs.Sections.{sets-snoc, getD-sets-in}
-use Rattle.lists.specs.Lists.{from, upto, keep, count, one}
+use Rattle.lists.specs.Lists.{from, upto, keep, count}
 
 -- where a loop that counts up to l is left, what stands after k turns stands after l
 pub at-the-end : {A : Type 0} (after : ℕ → A) {k l : ℕ} → k ≤ l → l ≤ k → after k ≡ after l

@@ -4,6 +4,7 @@ use Prim.Native.Nat.{ℕ, zero, suc, _+_, _-_, _*_, _≤_, _<_}
 use native.Mathlib.Decide.{decLt}
 use native.Mathlib.Numerals.{add-one}
 use native.Mathlib.Omega.{arith}
+use mathlib.Core.Bool.{Bool, true, false}
 use mathlib.Core.List.{List, map}
 use mathlib.Core.Path.{_≡_, refl, sym, ap, _∙_, subst}
 use lib.Dec.{ltb, leb}
@@ -157,6 +158,12 @@ module _ (b : List ℕ) (p : ℕ) {v f i : ℕ} (node : v ≡ portNode b p) (fir
   unfolding output
   offset-out low =
       rw (sym output-test ∙ le-leb (f + i) p low) (omega (arith, ap (firstPort b) node, ap (ins b) node))
+
+-- a port has one offset
+pub offset-unique : (b : List ℕ) (out : Bool) (v r s : ℕ) → portOf b out v r ≡ portOf b out v s → r ≡ s
+unfolding input output
+offset-unique b true v r s e = omega arith
+offset-unique b false v r s e = omega arith
 
 -- the first ports of one node more, in a section
 pub filled-next : (b : List ℕ) (l : List ℕ) (v : ℕ) {p : ℕ} {m : List ℕ} → p ≡ firstPort b v → m ≡ sets l 0 (map (firstPort b) (upto v))

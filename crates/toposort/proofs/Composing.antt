@@ -1,11 +1,11 @@
 -- The scratch laid out: what each step of the ordering finds, one section after the other, and what they come to.
 -- Rests on lists.Sections and links_by_port.
-use Prim.Native.Nat.{ℕ, suc, _+_, _*_, _≤_, _<_}
+use Prim.Native.Nat.{ℕ, suc, _+_, _≤_, _<_}
 use native.Mathlib.Omega.{arith}
 use mathlib.Core.Path.{_≡_, refl, sym, ap, ap₂, _∙_}
-use mathlib.Core.Logic.{inl, inr}
+use mathlib.Core.Logic.{inl}
 use mathlib.Core.List.{List, map}
-use lib.ListN.{length, getD}
+use lib.ListN.{length}
 use lib.Seq.{sets, length-sets}
 use Rattle.lists.specs.Lists.{upto}
 use Rattle.lists.proofs.Sections.{part, part-sets-in, part-sets-out}
@@ -16,10 +16,10 @@ use Rattle.order_theory.proofs.Refusals.{sound}
 use Rattle.stepmap.specs.Formed.{ReadWell}
 use Rattle.counting_sort.specs.Sorted.{below, startsBy, sortedBy}
 use Rattle.counting_sort.proofs.Counting.{below-all}
-use Rattle.links_by_port.specs.Tabled.{Tabled, Roomy, byPort}
+use Rattle.links_by_port.specs.Tabled.{Roomy, byPort}
 use Rattle.links_by_port.proofs.Writing.{source-below}
 use Rattle.links_by_port.proofs.NodeLinks.{before-port}
-use Rattle.toposort.specs.Standing.{Indexed, Ordering, laid}
+use Rattle.toposort.specs.Standing.{Ordering, laid}
 use Rattle.toposort.specs.Laid.{firstsAt, keysAt, startsAt, sortedAt, countsAt, Ready, indexed, orderLaid}
 
 module _ {b a : List ℕ} {n l p : ℕ} (ready : Ready b a n l p) where

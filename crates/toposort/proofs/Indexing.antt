@@ -3,19 +3,17 @@
 use Prim.Native.Nat.{ℕ, suc, _+_, _-_, _≤_, _<_}
 use native.Mathlib.Decide.{decLt}
 use native.Mathlib.Omega.{arith}
-use native.Mathlib.Numerals.{add-one}
 use mathlib.Core.Path.{_≡_, sym, ap, _∙_, subst}
-use mathlib.Core.Logic.{inl, inr}
 use mathlib.Core.List.{List, map}
-use lib.ListN.{length, getD, length-take}
+use lib.ListN.{length, getD}
 use Rattle.lists.specs.Lists.{upto}
 use Rattle.lists.proofs.Sections.{part, length-part, getD-part}
 use Rattle.lists.proofs.Upto.{length-table, getD-table}
-use Rattle.paper.specs.Map.{N, L, P, ins, outs, firstPort, sourcePort, outLinks}
+use Rattle.paper.specs.Map.{N, L, P, firstPort, sourcePort, outLinks}
 use Rattle.order_theory.specs.Sound.{Sound}
 use Rattle.order_theory.proofs.Ports.{ports-end}
 use Rattle.order_theory.proofs.Refusals.{sound}
-use Rattle.counting_sort.specs.Sorted.{below, startsBy, sortedBy}
+use Rattle.counting_sort.specs.Sorted.{below, startsBy}
 use Rattle.counting_sort.proofs.Counting.{below-le, below-length}
 use Rattle.links_by_port.proofs.NodeLinks.{out-part}
 use Rattle.toposort.specs.Standing.{Indexed}

@@ -2,13 +2,13 @@
 -- Rests on order_theory.Links, the counting sort's tally and lists.Sections.
 use Prim.Native.Nat.{ℕ, _+_, _-_, _≤_, _<_}
 use native.Mathlib.Omega.{arith}
-use mathlib.Core.Path.{_≡_, refl, sym, ap, _∙_}
-use mathlib.Core.Logic.{inl, inr}
+use mathlib.Core.Path.{_≡_, sym, ap, _∙_}
+use mathlib.Core.Logic.{inl}
 use mathlib.Core.List.{List, [], map}
 use lib.ListN.{length, getD, take, replicate, length-replicate}
 use lib.Seq.{sets, length-sets, take-length}
 use lib.Dec.{eqb}
-use Rattle.lists.specs.Lists.{upto, count, times}
+use Rattle.lists.specs.Lists.{upto, times}
 use Rattle.lists.proofs.Sections.{part, getD-sets-in, getD-sets-out, part-sets-in, part-sets-out, sets-sets}
 use Rattle.lists.proofs.Upto.{length-table, getD-table, table-same}
 use Rattle.lists.proofs.Count.{eqb-sym, count-map, count-same}

@@ -1,17 +1,17 @@
 -- A followed link in the area: the counter of its target is lowered, and the target joins at the link that fills its last input.
 -- Rests on order_theory.Queue and lists.Sections.
-use Prim.Native.Nat.{ℕ, zero, suc, _+_, _-_, _≤_, _<_}
+use Prim.Native.Nat.{ℕ, _+_, _-_, _≤_, _<_}
 use native.Mathlib.Decide.{ℕ-discrete}
 use native.Mathlib.Omega.{arith}
 use borrow.Author.Tests.{eq-eqb, ne-eqb}
-use mathlib.Core.Path.{_≡_, refl, sym, ap, ap₂, _∙_}
-use mathlib.Core.Logic.{inl, inr, _≢_}
+use mathlib.Core.Path.{_≡_, refl, sym, ap, _∙_}
+use mathlib.Core.Logic.{inl, _≢_}
 use mathlib.Core.Bool.{Bool, true, false, cond}
-use mathlib.Core.List.{List, [], _∷_, _++_, map, append-nil}
+use mathlib.Core.List.{List, [], _∷_, _++_, append-nil}
 use lib.ListN.{length, getD, set, length-append}
 use lib.Seq.{sets, length-sets}
 use lib.Dec.{eqb}
-use Rattle.lists.specs.Lists.{upto, count, one, times}
+use Rattle.lists.specs.Lists.{one, times}
 use Rattle.lists.proofs.Sections.{getD-sets-in, set-sets-in, set-sets-out, sets-snoc}
 use Rattle.lists.proofs.Upto.{length-table, getD-table, set-table, count-append}
 use Rattle.lists.proofs.Count.{one-eq, one-ne}

@@ -4,26 +4,26 @@ use Prim.Native.Nat.{ℕ, zero, suc, _+_, _-_, _≤_, _<_}
 use native.Mathlib.Decide.{ℕ-discrete}
 use native.Mathlib.Omega.{arith}
 use borrow.Author.Tests.{eq-eqb, ne-eqb}
-use mathlib.Core.Path.{_≡_, refl, sym, ap, _∙_}
+use mathlib.Core.Path.{_≡_, sym, ap, _∙_}
 use mathlib.Core.Logic.{inl, inr}
-use mathlib.Core.Bool.{Bool, true, false, not}
+use mathlib.Core.Bool.{not}
 use mathlib.Core.List.{List, [], map}
 use lib.ListN.{length, getD}
 use lib.Seq.{sets, length-sets}
 use lib.Dec.{eqb}
-use Rattle.lists.specs.Lists.{upto, keep, In, times}
+use Rattle.lists.specs.Lists.{upto, keep, In}
 use Rattle.lists.specs.Found.{first}
 use Rattle.lists.proofs.Count.{keep-upto}
 use Rattle.lists.proofs.Extends.{extends-length}
 use Rattle.lists.proofs.First.{first-same}
 use Rattle.lists.proofs.Places.{times-in, times-in-back}
-use Rattle.lists.proofs.Sections.{part, getD-sets-in, part-sets-out, sets-comm}
+use Rattle.lists.proofs.Sections.{getD-sets-in, part-sets-out, sets-comm}
 use Rattle.lists.proofs.Upto.{length-table, getD-table}
 use Rattle.paper.specs.Map.{N, L, P, linkTo, inLinks}
-use Rattle.paper.specs.Order.{Queue, started, queueAfter, neverOrdered, placeIn, order as orderOfMap}
+use Rattle.paper.specs.Order.{started, queueAfter, neverOrdered, order as orderOfMap}
 use Rattle.paper.specs.Refusals.{Ruling, refuse, rule6}
 use Rattle.order_theory.specs.Sound.{Sound}
-use Rattle.order_theory.specs.Queued.{Queued, filled}
+use Rattle.order_theory.specs.Queued.{filled}
 use Rattle.order_theory.proofs.Queue.{joined-once, filled-most, filled-all, room}
 use Rattle.order_theory.proofs.Turns.{after-grows}
 use Rattle.order_theory.proofs.Queued.{queued}

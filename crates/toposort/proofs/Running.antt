@@ -1,20 +1,18 @@
 -- The turns one after the other: what a turn leaves is what the next one finds, and at the end the order is whole.
 -- Rests on Turning, order_theory.Order and lists.Sections.
-use Prim.Native.Nat.{ℕ, zero, suc, _+_, _≤_, _<_}
+use Prim.Native.Nat.{ℕ, _+_, _≤_, _<_}
 use native.Mathlib.Omega.{arith}
 use native.Mathlib.Numerals.{add-one}
-use mathlib.Core.Path.{_≡_, refl, sym, ap, _∙_, subst}
+use mathlib.Core.Path.{_≡_, sym, ap, _∙_, subst}
 use mathlib.Core.Logic.{inl, inr}
 use mathlib.Core.List.{List}
 use lib.ListN.{length}
 use lib.Seq.{sets, length-sets}
-use Rattle.lists.specs.Bounds.{Extends}
 use Rattle.lists.proofs.Extends.{extends-length}
 use Rattle.lists.proofs.Sections.{part, part-sets-in, part-sets-out, sets-sets, sets-comm, sets-part}
-use Rattle.paper.specs.Map.{N, L, P}
+use Rattle.paper.specs.Map.{L, P}
 use Rattle.paper.specs.Order.{Queue, queueAfter, order as orderOfMap}
 use Rattle.order_theory.specs.Sound.{Sound}
-use Rattle.order_theory.specs.Queued.{Queued}
 use Rattle.order_theory.proofs.Queue.{room}
 use Rattle.order_theory.proofs.Turns.{after-grows}
 use Rattle.order_theory.proofs.Queued.{queued}

@@ -3,9 +3,9 @@
 use Prim.Native.Nat.{ℕ, _+_, _*_, _≤_, _<_}
 use native.Mathlib.Omega.{arith}
 use mathlib.Core.Path.{_≡_, refl, sym, ap, _∙_}
-use mathlib.Core.List.{List, [], _∷_, _++_}
+use mathlib.Core.List.{List, [], _∷_}
 use borrow.Author.Tests.{lt-ltb, le-ltb}
-use lib.ListN.{length, replicate, length-replicate}
+use lib.ListN.{length, getD, replicate}
 use lib.Seq.{sets, length-sets}
 use Rattle.lists.specs.Found.{placed}
 use Rattle.lists.proofs.Sections.{sets-sets}
@@ -15,11 +15,10 @@ use Rattle.paper.specs.Calls.{untouched, unprepared}
 use Rattle.paper.specs.Refusals.{Ruling, passed, refusal, refuse, Answer, answer, onRefusal, refused, answered, decide, rule1, rule2, rule3, rule45, rule6}
 use Rattle.paper.proofs.Area.{W-sum}
 use Rattle.stepmap.specs.Formed.{ReadWell}
-use Rattle.stepmap.specs.Said.{mapSaid, linksSaid}
 use Rattle.toposort.specs.declared.ordering.Ordered.{Ordered}
-use Rattle.toposort.specs.declared.ordering.Ordered.the-variants.{NoRoom}
+use Rattle.toposort.specs.declared.ordering.Ordered.the-variants.{Malformed, TooLarge, NoRoom, Missing, Second, Cycle, Done}
 use Rattle.toposort.specs.Laid.{Ready, SizedLeft, OrderLeft, orderLaid, orderedSaid, zeroed}
-use Rattle.toposort.proofs.Refusing.{passed-said, refused-said, passed-kept, refused-kept, next, here, alone, after, before}
+use Rattle.toposort.proofs.Refusing.{refused-said, passed-kept, refused-kept, next, here, alone, after, before}
 
 abbrev Sizes : Type 0
 Sizes = ℕ × ℕ × ℕ
@@ -144,3 +143,22 @@ module _ (b a : List ℕ) where
 -- .. and the sizes mean that 1 and 2 passed
 pub passes : (b : List ℕ) {s : Sizes} → answered s ≡ answer (decide (rule1 b ∷ rule2 b ∷ [])) (N b, L b, P b) → passed ≡ decide (rule1 b ∷ rule2 b ∷ [])
 passes b e = was-passed (N b, L b, P b) (decide (rule1 b ∷ rule2 b ∷ [])) e
+
+-- ---- each answer's meaning tells its cases apart
+
+meant : Answer Sizes → Ordered
+meant (answered (n, l, p)) = Done n l p
+meant (refused i v) = getD (NoRoom ∷ Malformed ∷ TooLarge ∷ NoRoom ∷ Missing v ∷ Second v ∷ Cycle v ∷ []) i NoRoom
+
+meant-said : (r : Ordered) → meant (orderedSaid r) ≡ r
+unfolding meant
+meant-said Malformed = refl
+meant-said TooLarge = refl
+meant-said NoRoom = refl
+meant-said (Missing k) = refl
+meant-said (Second k) = refl
+meant-said (Cycle v) = refl
+meant-said (Done n l p) = refl
+
+pub orderedSaid-injective : (r s : Ordered) → orderedSaid r ≡ orderedSaid s → r ≡ s
+orderedSaid-injective r s e = sym (meant-said r) ∙ ap meant e ∙ meant-said s

@@ -1,18 +1,18 @@
 -- A turn of the order in the area: the front's links are read one after the other and followed.
 -- Rests on Indexing, Laying and order_theory.Queued.
-use Prim.Native.Nat.{ℕ, zero, suc, _+_, _-_, _≤_, _<_}
+use Prim.Native.Nat.{ℕ, suc, _+_, _-_, _≤_, _<_}
 use native.Mathlib.Omega.{arith}
 use native.Mathlib.Numerals.{add-one}
-use mathlib.Core.Path.{_≡_, refl, sym, ap, ap₂, _∙_, subst}
+use mathlib.Core.Path.{_≡_, sym, ap, ap₂, _∙_, subst}
 use mathlib.Core.Logic.{inl, inr}
 use mathlib.Core.List.{List}
 use lib.ListN.{length, getD}
-use lib.Seq.{sets, length-sets}
+use lib.Seq.{sets}
 use lib.Dec.{eqb}
 use Rattle.lists.specs.Lists.{one, times}
-use Rattle.lists.proofs.Sections.{part, getD-part, getD-sets-out, sets-part}
+use Rattle.lists.proofs.Sections.{getD-part, getD-sets-out, sets-part}
 use Rattle.lists.proofs.Places.{place-known}
-use Rattle.paper.specs.Map.{N, L, P, firstPort, linkTo, outLinks}
+use Rattle.paper.specs.Map.{N, L, firstPort, linkTo, outLinks}
 use Rattle.paper.specs.Order.{Queue, follow, queueAfter}
 use Rattle.order_theory.specs.Sound.{Sound}
 use Rattle.order_theory.specs.Queued.{Queued, frontAt, nextLink, midTurn}

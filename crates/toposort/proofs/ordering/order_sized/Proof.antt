@@ -45,25 +45,46 @@ enum-told : tie.Need-enum-told
 enum-told c = search needs
 
 order-sound-requires : tie.Need-order-sound-requires
-order-sound-requires c κs = ready-zeroed (c .before .before .before .before .before .before .before .before .before .before .before .pre) _ (search needs) (c .before .before .before .before .before .before .fill .ensures) (ap linksSaid (sym (c .before .enum-told .given .1)) ∙ c .before .before .before .check-links .ensures)
+order-sound-requires c κs =
+    let checked = c .before .before .before in
+    let filled = checked .before .before .before in
+    let start = filled .before .before .before .before .before in
+    ready-zeroed (start .pre) _ (search needs) (filled .fill .ensures)
+    (ap linksSaid (sym (c .before .enum-told .given .1)) ∙ checked .check-links .ensures)
 
 same-length : tie.Need-same-length
 same-length c = search needs
 
 returns-2 : tie.Need-returns-2
-returns-2 c = bad-link (c .before .before .before .before .before .before .before .before .before .before .before .pre) _ (search needs) refl (ap linksSaid (sym (c .before .found .given .1)) ∙ c .before .before .before .check-links .ensures) (c .before .before .before .before .before .before .fill .ensures)
+returns-2 c =
+    let checked = c .before .before .before in
+    let filled = checked .before .before .before in
+    let start = filled .before .before .before .before .before in
+    bad-link (start .pre) _ (search needs) refl (ap linksSaid (sym (c .before .found .given .1)) ∙ checked .check-links .ensures)
+    (filled .fill .ensures)
 
 same-length-2 : tie.Need-same-length-2
 same-length-2 c = search needs
 
 returns-3 : tie.Need-returns-3
-returns-3 c = bad-link (c .before .before .before .before .before .before .before .before .before .before .before .pre) _ (search needs) refl (ap linksSaid (sym (c .before .found2 .given .1)) ∙ c .before .before .before .check-links .ensures) (c .before .before .before .before .before .before .fill .ensures)
+returns-3 c =
+    let checked = c .before .before .before in
+    let filled = checked .before .before .before in
+    let start = filled .before .before .before .before .before in
+    bad-link (start .pre) _ (search needs) refl (ap linksSaid (sym (c .before .found2 .given .1)) ∙ checked .check-links .ensures)
+    (filled .fill .ensures)
 
 same-length-3 : tie.Need-same-length-3
 same-length-3 c = search needs
 
 returns-4 : tie.Need-returns-4
-returns-4 c = sound-links (c .before .before .before .before .before .before .before .before .before .before .before .before .before .before .pre) _ (search needs) (c .before .before .before .before .before .before .before .before .before .fill .ensures) (ap linksSaid (sym (c .before .before .before .before .enum-told .given .1)) ∙ c .before .before .before .before .before .before .check-links .ensures) (c .before .before .order-sound .ensures .0) (c .before .before .order-sound .ensures .1)
+returns-4 c =
+    let checked = c .before .before .before .before .before .before in
+    let filled = checked .before .before .before in
+    let start = filled .before .before .before .before .before in
+    sound-links (start .pre) _ (search needs) (filled .fill .ensures)
+    (ap linksSaid (sym (c .before .before .before .before .enum-told .given .1)) ∙ checked .check-links .ensures)
+    (c .before .before .order-sound .ensures .0) (c .before .before .order-sound .ensures .1)
 
 pub order-sized-spec : {M : Type 1} → statement M
 order-sized-spec =

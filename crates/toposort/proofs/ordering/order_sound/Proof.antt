@@ -39,15 +39,19 @@ same-length : tie.Need-same-length
 same-length c = search needs
 
 returns : tie.Need-returns
-returns c = all-ordered (c .before .before .before .before .before .before .before .before .pre) (c .enum-told .given .1) (c .before .before .before .before .order-nodes .ensures .0) (c .before .before .before .before .order-nodes .ensures .1)
+returns c =
+    let ordered = c .before .before .before .before in
+    all-ordered (ordered .before .before .before .before .pre) (c .enum-told .given .1) (ordered .order-nodes .ensures .0) (ordered .order-nodes .ensures .1)
 
 same-length-2 : tie.Need-same-length-2
 same-length-2 c = search needs
 
 returns-2 : tie.Need-returns-2
 returns-2 c =
-    cycle-found (c .before .before .before .before .before .before .before .before .before .before .before .before .before .pre) _ (c .before .before .before .before .before .found .given .1) (c .before .before .before .before .before .before .before .before .before .order-nodes .ensures .0) (c .before .before .before .before .before .before .before .before .before .order-nodes .ensures .1)
-    (c .before .before .fill .ensures)
+    let matched = c .before .before .before .before .before in
+    let ordered = matched .before .before .before .before in
+    cycle-found (ordered .before .before .before .before .pre) _ (matched .found .given .1) (ordered .order-nodes .ensures .0)
+    (ordered .order-nodes .ensures .1) (c .before .before .fill .ensures)
 
 pub order-sound-spec : {M : Type 1} → statement M
 order-sound-spec =

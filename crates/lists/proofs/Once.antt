@@ -1,5 +1,5 @@
 -- Sums over sums in either order, and the sum over a list that holds each number below n once.
--- Rests on ListsWeight.
+-- Rests on Weight and Members.
 use Prim.Native.Nat.{ℕ, _+_, _<_}
 use native.Mathlib.Decide.{ℕ-discrete}
 use native.Mathlib.Omega.{arith}
@@ -8,12 +8,12 @@ use mathlib.Core.Bool.{Bool, true, false, cond}
 use mathlib.Core.List.{List, [], _∷_, List·Memᴰ, List·Memᴰ·head, List·Memᴰ·tail}
 use lib.Dec.{eqb}
 use borrow.Author.Tests.{eq-eqb, ne-eqb, eqb-true}
 use Rattle.lists.specs.Lists.{upto, one, times}
 use Rattle.lists.specs.Bounds.{Below}
 use Rattle.lists.proofs.Count.{times-upto}
-use Rattle.lines_theory.specs.Weight.{total}
-use Rattle.lines_theory.proofs.ListsWeight.{total-add, total-same}
-use Rattle.lines_theory.proofs.ListsMembers.{member-below}
+use Rattle.lists.specs.Weight.{total}
+use Rattle.lists.proofs.Weight.{total-add, total-same}
+use Rattle.lists.proofs.Members.{member-below}
 
 module _ {A : Type 0} where
   -- sums that agree on the members

@@ -1,5 +1,5 @@
 -- Membership in a list of anything, joined to counts: what is a member counts, and what counts has a member.
--- Rests on mathlib's `List·Memᴰ` and on lists.Count.
+-- Rests on mathlib's `List·Memᴰ` and on Count.
 use Prim.Native.Nat.{ℕ, _+_, _≤_, _<_}
 use native.Mathlib.Decide.{ℕ-discrete, decLt}
 use native.Mathlib.Omega.{arith}

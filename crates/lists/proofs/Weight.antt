@@ -1,5 +1,5 @@
 -- Sums and weights over lists and over the numbers below a bound, and the count of a list known by how often each number stands in it.
--- Rests on lists.Count and lists.Compare.
+-- Rests on Count and Compare.
 use Prim.Native.Nat.{ℕ, zero, suc, _+_, _≤_, _<_}
 use native.Mathlib.Omega.{arith}
 use mathlib.Core.Path.{_≡_, refl, sym, ap, _∙_}
@@ -7,12 +7,12 @@ use mathlib.Core.Bool.{Bool, true, false, cond, _&&_}
 use mathlib.Core.List.{List, [], _∷_, _++_}
 use lib.ListN.{length}
 use lib.Dec.{eqb}
 use Rattle.lists.specs.Lists.{from, upto, one, keep, count, times}
 use Rattle.lists.specs.Bounds.{Below}
 use Rattle.lists.proofs.Upto.{count-append, length-from}
 use Rattle.lists.proofs.Count.{cond-add, cond-mono, cond-none, length-keep, times-keep-upto, times-keep-past}
 use Rattle.lists.proofs.Compare.{fewer, same-length}
-use Rattle.lines_theory.specs.Weight.{total, weight}
+use Rattle.lists.specs.Weight.{total, weight}
 
 -- ---- sums
 
