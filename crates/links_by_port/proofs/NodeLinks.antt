@@ -3,13 +3,13 @@
 use Prim.Native.Nat.{ℕ, zero, suc, _+_, _-_, _≤_, _<_}
 use native.Mathlib.Omega.{arith}
 use native.Mathlib.Nat.{zero-add, add-zero}
-use mathlib.Core.Path.{_≡_, refl, sym, ap, ap₂, _∙_, subst}
-use mathlib.Core.Bool.{Bool, true, false}
+use mathlib.Core.Path.{_≡_, sym, ap, ap₂, _∙_}
+use mathlib.Core.Bool.{false}
 use mathlib.Core.List.{List, [], _∷_, _++_, map, flatMap, append-nil, append-assoc}
-use lib.ListN.{length, getD, take, drop, length-append}
+use lib.ListN.{length, getD, take, length-append}
 use lib.Seq.{take-at, drop-at}
 use lib.Dec.{eqb}
-use Rattle.lists.specs.Lists.{from, upto, keep, times, count}
+use Rattle.lists.specs.Lists.{from, upto, keep, times}
 use Rattle.lists.proofs.Sections.{part}
 use Rattle.lists.proofs.Upto.{keep-none, flatMap-from, flatMap-none, upto-suc, from-add, length-table, getD-table, table-of, flatMap-append}
 use Rattle.lists.proofs.Count.{keep-upto, length-keep, eqb-sym, count-map, count-same}
@@ -17,7 +17,7 @@ use Rattle.paper.specs.Map.{N, L, P, ins, outs, firstPort, input, output, input
 use Rattle.order_theory.specs.Sound.{Sound}
 use Rattle.order_theory.proofs.Ports.{ports-end, source-input, target-output, links-at-output, links-at-input}
 use Rattle.counting_sort.specs.Sorted.{below, placesOf, sortedBy}
-use Rattle.counting_sort.proofs.Counting.{below-zero, below-suc, below-le}
+use Rattle.counting_sort.proofs.Counting.{below-zero, below-suc}
 
 -- how often a key stands, by its places
 places-of : (ks : List ℕ) (q : ℕ) → length (placesOf ks q) ≡ times q ks

@@ -1,6 +1,6 @@
 -- A turn of the writing of keys, for either port of a link: what is read stands, the key is a port, and one key more is written.
 -- Rests on order_theory (ports of a sound map), lists.Sections and lists.Upto.
-use Prim.Native.Nat.{ℕ, suc, _+_, _*_, _≤_, _<_}
+use Prim.Native.Nat.{ℕ, _+_, _*_, _≤_, _<_}
 use native.Mathlib.Omega.{arith}
 use native.Mathlib.Numerals.{add-one}
 use mathlib.Core.Path.{_≡_, sym, ap, _∙_}
@@ -9,12 +9,11 @@ use mathlib.Core.List.{List, [], _∷_, _++_, map}
 use lib.ListN.{length, getD, set}
 use lib.Seq.{sets, length-sets}
 use Rattle.lists.specs.Lists.{upto}
-use Rattle.lists.proofs.Sections.{part, getD-part, getD-sets-out, sets-next}
+use Rattle.lists.proofs.Sections.{getD-part, getD-sets-out, sets-next}
 use Rattle.lists.proofs.Upto.{length-table, getD-table, table-suc}
 use Rattle.paper.specs.Map.{N, L, P, ins, outs, firstPort, input, output, linkFrom, linkOut, linkTo, linkIn, sourcePort, targetPort}
 use Rattle.order_theory.specs.Sound.{Sound}
 use Rattle.order_theory.proofs.Ports.{ports-end}
-use Rattle.order_theory.proofs.Refusals.{sound}
 use Rattle.stepmap.specs.Formed.{HasLink, ReadWell}
 use Rattle.links_by_port.specs.Tabled.{Tabled}
 

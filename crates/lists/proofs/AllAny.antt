@@ -1,5 +1,5 @@
 -- What a test says of all numbers below a bound and of any of them, as values of the test: the laws that a search by a loop needs.
--- Rests on nothing but the definitions.
+-- Rests on Upto (numbers in a row).
 use Prim.Native.Nat.{ℕ, zero, suc, _+_, _≤_, _<_}
 use native.Mathlib.Decide.{ℕ-discrete}
 use native.Mathlib.Numerals.{add-one}
@@ -7,6 +7,7 @@ use native.Mathlib.Omega.{arith}
 use mathlib.Core.Bool.{Bool, true, false, _&&_, _||_, and-false, or-true, or-false, or-assoc}
 use mathlib.Core.Path.{_≡_, refl, sym, ap, _∙_}
 use Rattle.lists.specs.Lists.{from, upto, all, any}
+use Rattle.lists.proofs.Upto.{at-first, further}
 
 module _ (f : ℕ → Bool) where
   -- all pass
@@ -61,12 +62,9 @@ module _ (f : ℕ → Bool) where
 
   -- one number more
   any-from-snoc : (n k : ℕ) → any f (from n (suc k)) ≡ (any f (from n k) || f (n + k))
-  any-from-snoc n zero = or-false (f n) ∙ ap f (here n)
-    where
-      here : (n : ℕ) → n ≡ n + zero
-      here n = omega arith
+  any-from-snoc n zero = or-false (f n) ∙ ap f (at-first n)
   any-from-snoc n (suc k) =
-      ap (λ (t : Bool). f n || t) (any-from-snoc (suc n) k ∙ ap (λ (i : ℕ). any f (from (suc n) k) || f i) (there n k))
+      ap (λ (t : Bool). f n || t) (any-from-snoc (suc n) k ∙ ap (λ (i : ℕ). any f (from (suc n) k) || f i) (further n k))
       ∙ sym (or-assoc (f n) (any f (from (suc n) k)) (f (n + suc k)))
     where
       there : (n k : ℕ) → suc n + k ≡ n + suc k

@@ -1,5 +1,5 @@
 -- Lists laid one after the other: how long the whole is, and how a part is read there.
--- Rests on lib.Seq (reading an append).
+-- Rests on lib.Seq (reading an append) and Upto (zeros).
 use Prim.Native.Nat.{ℕ, zero, suc, _+_, _-_, _≤_, _<_}
 use native.Mathlib.Nat.{zero-add}
 use native.Mathlib.Omega.{arith}
@@ -10,17 +10,12 @@ use lib.Seq.{slice, getD-append-add, getD-drop, getD-take, ext-getD, length-slic
 use lib.Dec.{eqb}
 use Rattle.lists.specs.Lists.{sum, pad}
 use Rattle.lists.specs.Bounds.{Below}
-use Rattle.lists.proofs.Upto.{count-append}
+use Rattle.lists.proofs.Upto.{count-append, getD-zeros}
 
 -- ---- a list made long by zeros
 
 pub length-pad : (n : ℕ) (xs : List ℕ) → length xs ≤ n → length (pad n xs) ≡ n
 length-pad n xs h = omega (arith, length-append xs (replicate (n - length xs) 0), length-replicate {A = ℕ} (n - length xs) 0)
-
-getD-zeros : (n i : ℕ) → _≡_ {A = ℕ} (getD (replicate n 0) i 0) 0
-getD-zeros zero i = refl
-getD-zeros (suc n) zero = refl
-getD-zeros (suc n) (suc i) = getD-zeros n i
 
 getD-append-zeros : (xs : List ℕ) (n i : ℕ) → getD (xs ++ replicate n 0) i 0 ≡ getD xs i 0
 getD-append-zeros [] n i = getD-zeros n i

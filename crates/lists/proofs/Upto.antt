@@ -19,15 +19,16 @@ at-the-end after low high = ap after (omega arith)
 
 -- ---- in a row
 
+-- where a row starts, and one number further on
+pub at-first : (n : ℕ) → n ≡ n + zero
+at-first n = omega arith
+
+pub further : (n k : ℕ) → suc n + k ≡ n + suc k
+further n k = omega arith
+
 pub from-snoc : (n k : ℕ) → from n (suc k) ≡ from n k ++ ((n + k) ∷ [])
-from-snoc n zero = ap (λ (m : ℕ). m ∷ []) (start n)
-  where
-    start : (n : ℕ) → n ≡ n + zero
-    start n = omega arith
-from-snoc n (suc k) = ap (λ (l : List ℕ). n ∷ l) (from-snoc (suc n) k ∙ ap (λ (m : ℕ). from (suc n) k ++ (m ∷ [])) (next n k))
-  where
-    next : (n k : ℕ) → suc n + k ≡ n + suc k
-    next n k = omega arith
+from-snoc n zero = ap (λ (m : ℕ). m ∷ []) (at-first n)
+from-snoc n (suc k) = ap (λ (l : List ℕ). n ∷ l) (from-snoc (suc n) k ∙ ap (λ (m : ℕ). from (suc n) k ++ (m ∷ [])) (further n k))
 
 pub upto-suc : (n : ℕ) → upto (suc n) ≡ upto n ++ (n ∷ [])
 upto-suc n = from-snoc 0 n ∙ ap (λ (m : ℕ). upto n ++ (m ∷ [])) (plain n)
@@ -36,21 +37,15 @@ upto-suc n = from-snoc 0 n ∙ ap (λ (m : ℕ). upto n ++ (m ∷ [])) (plain n)
     plain n = omega arith
 
 pub from-add : (n j k : ℕ) → from n (j + k) ≡ from n j ++ from (n + j) k
-from-add n zero k = ap (λ (m : ℕ). from n m) (zero-first k) ∙ ap (λ (m : ℕ). from m k) (zero-last n)
+from-add n zero k = ap (λ (m : ℕ). from n m) (zero-first k) ∙ ap (λ (m : ℕ). from m k) (at-first n)
   where
     zero-first : (k : ℕ) → zero + k ≡ k
     zero-first k = omega arith
-
-    zero-last : (n : ℕ) → n ≡ n + zero
-    zero-last n = omega arith
 from-add n (suc j) k =
-    ap (λ (m : ℕ). from n m) (out j k) ∙ ap (λ (l : List ℕ). n ∷ l) (from-add (suc n) j k ∙ ap (λ (m : ℕ). from (suc n) j ++ from m k) (over n j))
+    ap (λ (m : ℕ). from n m) (out j k) ∙ ap (λ (l : List ℕ). n ∷ l) (from-add (suc n) j k ∙ ap (λ (m : ℕ). from (suc n) j ++ from m k) (further n j))
   where
     out : (j k : ℕ) → suc j + k ≡ suc (j + k)
     out j k = omega arith
-
-    over : (n j : ℕ) → suc n + j ≡ n + suc j
-    over n j = omega arith
 
 pub length-from : (n k : ℕ) → length (from n k) ≡ k
 length-from n zero = refl
@@ -61,14 +56,8 @@ getD-from n zero i d h = absurd (nothing h)
   where
     nothing : {i : ℕ} → i < zero → ⊥
     nothing h = omega arith
-getD-from n (suc k) zero d h = start n
-  where
-    start : (n : ℕ) → n ≡ n + zero
-    start n = omega arith
-getD-from n (suc k) (suc i) d h = getD-from (suc n) k i d (omega arith) ∙ next n i
-  where
-    next : (n i : ℕ) → suc n + i ≡ n + suc i
-    next n i = omega arith
+getD-from n (suc k) zero d h = at-first n
+getD-from n (suc k) (suc i) d h = getD-from (suc n) k i d (omega arith) ∙ further n i
 
 module _ {A : Type 0} (f g : ℕ → A) (same : (i : ℕ) → f (suc i) ≡ g i) where
   -- what is made of them one number further on
@@ -122,14 +111,8 @@ module _ {A : Type 0} where
         where
           nothing : {i : ℕ} → i < zero → ⊥
           nothing h = omega arith
-      inside m (suc n) zero h = ap f (start m)
-        where
-          start : (m : ℕ) → m ≡ m + zero
-          start m = omega arith
-      inside m (suc n) (suc i) h = inside (suc m) n i (omega arith) ∙ ap f (next m i)
-        where
-          next : (m i : ℕ) → suc m + i ≡ m + suc i
-          next m i = omega arith
+      inside m (suc n) zero h = ap f (at-first m)
+      inside m (suc n) (suc i) h = inside (suc m) n i (omega arith) ∙ ap f (further m i)
 
   pub table-suc : (f : ℕ → A) (n : ℕ) → map f (upto (suc n)) ≡ map f (upto n) ++ (f n ∷ [])
   table-suc f n = ap (map f) (upto-suc n) ∙ map-append f (upto n) (n ∷ [])
@@ -208,14 +191,8 @@ pub flatMap-from : {A : Type 0} (f g : ℕ → List A) (n k : ℕ) → ((i : ℕ
 unfolding flatMap
 flatMap-from f g n zero h = refl
 flatMap-from {A} f g n (suc k) h =
-    ap₂ (λ (x y : List A). x ++ y) (ap f (here n) ∙ h 0 (omega arith) ∙ ap g (sym (here n)))
-    (flatMap-from f g (suc n) k (λ i l. ap f (on n i) ∙ h (suc i) (omega arith) ∙ ap g (sym (on n i))))
-  where
-    here : (n : ℕ) → n ≡ n + 0
-    here n = omega arith
-
-    on : (n i : ℕ) → suc n + i ≡ n + suc i
-    on n i = omega arith
+    ap₂ (λ (x y : List A). x ++ y) (ap f (at-first n) ∙ h 0 (omega arith) ∙ ap g (sym (at-first n)))
+    (flatMap-from f g (suc n) k (λ i l. ap f (further n i) ∙ h (suc i) (omega arith) ∙ ap g (sym (further n i))))
 
 pub flatMap-none : {A : Type 0} (n k : ℕ) → flatMap {B = A} (λ (i : ℕ). []) (from n k) ≡ []
 unfolding flatMap

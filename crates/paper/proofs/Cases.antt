@@ -2,10 +2,10 @@
 -- Rests on Recording, which compares a table's entry with what the definitions compute.
 use Prim.Native.Nat.{ℕ}
 use mathlib.Core.Bool.{Bool, false, _&&_}
-use mathlib.Core.List.{List, [], _∷_, _++_}
+use mathlib.Core.List.{List, [], _∷_}
 use lib.ListN.{replicate}
 use lib.Dec.{T, eqb}
-use Rattle.lists.specs.Lists.{all, same}
+use Rattle.lists.specs.Lists.{all}
 use Rattle.paper.specs.Area.{W}
 use Rattle.paper.specs.Intervals.{Yes, No}
 use Rattle.paper.specs.Refusals.{Answer, refused, answered}

@@ -5,7 +5,6 @@ use mathlib.Core.Path.{_≡_, refl}
 use mathlib.Core.List.{List, [], _∷_, _++_}
 use lib.ListN.{replicate}
 use Rattle.lists.specs.Ascii.{ascii}
-use Rattle.paper.specs.Area.{W}
 use Rattle.paper.specs.Calls.{prepare}
 use Rattle.paper.specs.Lookup.{rounded, product, guess}
 use Rattle.paper.specs.Text.{ask}

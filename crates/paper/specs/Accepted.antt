@@ -1,8 +1,8 @@
 -- 01, "Accepted tables": sentence by sentence as a proposition, and as a test that computes. proofs/Accepted.antt shows that they say the same.
 -- Rests on Map, Area and Order (a node's place in an order).
-use Prim.Native.Nat.{ℕ, zero, suc, _+_, _≤_, _<_}
+use Prim.Native.Nat.{ℕ, suc, _+_, _≤_, _<_}
 use mathlib.Core.Path.{_≡_}
-use mathlib.Core.Bool.{Bool, true, false, _&&_}
+use mathlib.Core.Bool.{Bool, false, _&&_}
 use mathlib.Core.List.{List, map}
 use lib.Dec.{leb, ltb, eqb}
 use Rattle.lists.specs.Lists.{upto, one, all, any, count, pairs, member, times, rising, Rising}

@@ -1,6 +1,6 @@
 -- 01, "The area": its eight sections, what is read from them, and what preparing writes.
 -- Rests on Map and Lines.
-use Prim.Native.Nat.{ℕ, zero, suc, _+_, _*_}
+use Prim.Native.Nat.{ℕ, suc, _+_, _*_}
 use mathlib.Core.List.{List, [], _∷_, map, flatMap, flatten}
 use lib.ListN.{length, getD, take, drop, replicate}
 use lib.Seq.{sets, slice}

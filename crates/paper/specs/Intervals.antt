@@ -2,7 +2,7 @@
 -- Rests on Area.
 use Prim.Native.Nat.{ℕ}
 use mathlib.Core.Bool.{Bool, _&&_, _||_, not, cond}
-use mathlib.Core.List.{List, [], _∷_, map, flatMap}
+use mathlib.Core.List.{List, map, flatMap}
 use lib.Dec.{leb}
 use Rattle.lists.specs.Lists.{all, keep, member, least, greatest, once}
 use Rattle.paper.specs.Area.{position, linesOf, nodesOf}

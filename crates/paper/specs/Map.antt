@@ -1,7 +1,7 @@
 -- 01, "The step map": its fields by accessors over the bytes, its ports, the links of a port, neighbours, and what a sound map is.
 -- Rests on lists.
 use Prim.Native.Nat.{ℕ, zero, suc, _+_, _*_, _-_}
-use mathlib.Core.Bool.{Bool, true, false, _&&_, _||_, not}
+use mathlib.Core.Bool.{Bool, _&&_, _||_, not}
 use mathlib.Core.List.{List, map, flatMap}
 use lib.ListN.{length, getD, take, drop}
 use lib.Dec.{eqb, leb, ltb}

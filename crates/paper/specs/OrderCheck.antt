@@ -1,8 +1,8 @@
 -- 01, "The questions": the order check, `TopoConvexChecker` (`topo_convex_checker.rs`) step by step, by places in the order.
 -- Rests on Map (neighbours), Area and Order (a node's place).
 use Prim.Native.Nat.{ℕ, zero, suc}
-use mathlib.Core.Bool.{Bool, true, false, _&&_, not, cond}
-use mathlib.Core.List.{List, [], _∷_, _++_, map}
+use mathlib.Core.Bool.{Bool, _&&_, not, cond}
+use mathlib.Core.List.{List, [], _∷_, map}
 use lib.ListN.{length, getD}
 use lib.Dec.{leb, ltb}
 use Rattle.lists.specs.Lists.{upto, any, keep, member, greatest, least, put}

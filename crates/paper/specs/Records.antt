@@ -1,8 +1,8 @@
 -- 01, "The questions": records in a buffer of words, extend, and nodes in records.
 -- Rests on Area, Intervals and Walk (the node that comes next on a line).
-use Prim.Native.Nat.{ℕ, zero, suc, _+_, _*_}
+use Prim.Native.Nat.{ℕ, _+_, _*_}
 use mathlib.Core.Bool.{Bool, _&&_, cond}
-use mathlib.Core.List.{List, [], _∷_, _++_, map, flatMap}
+use mathlib.Core.List.{List, [], _∷_, map, flatMap}
 use lib.ListN.{getD}
 use lib.Dec.{eqb, ltb}
 use Rattle.lists.specs.Lists.{upto, any, keep, sortBy}

@@ -1,8 +1,6 @@
 -- `toposort::toposort` meets its contract: the counters start the queue, the turns empty it, and what is left names the refusal.
 -- Rests on Ordered.
 use borrow.Author.Needs.{needs}
-use mathlib.Core.Path.{ap}
-use lib.ListN.{length}
 use Rattle.toposort.proofs.Ordered.{counting, counters, standing₀, laid₃, room₃, said}
 use Rattle.toposort.proofs.toposort.Statement.{statement}
 use Rattle.toposort.proofs.toposort.Tie as tie

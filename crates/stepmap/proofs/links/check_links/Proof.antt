@@ -1,17 +1,12 @@
 use Rattle.stepmap.proofs.LinkPass.{Passed, firsts-from, pass-starts, link-ready, pass-on, faulty-link, all-sound, other-tag}
 -- `stepmap::links::check_links` meets its contract: the links passed have no fault and their inputs' marks are set; the first fault decides.
 -- Rests on LinkPass.
-use Prim.Native.Nat.{_-_, _≤_}
+use Prim.Native.Nat.{_-_}
 use native.Mathlib.Omega.{arith}
-use mathlib.Core.Path.{_≡_, refl, sym, _∙_}
-use lib.ListN.{length}
+use mathlib.Core.Path.{refl, sym}
 use denote.Enum.Declared.{tagOf}
 use borrow.Author.Needs.{needs}
-use Rattle.lists.specs.Found.{absent, first}
-use Rattle.stepmap.specs.Marks.{Marked}
 use Rattle.stepmap.proofs.Known.{numbered}
-use Rattle.lists.proofs.First.{first-next}
-use Rattle.stepmap.proofs.Marking.{bad}
 use Rattle.stepmap.proofs.links.Links.{the-type}
 use Rattle.stepmap.proofs.links.check_links.Statement.{statement}
 use Rattle.stepmap.proofs.links.check_links.Tie as tie

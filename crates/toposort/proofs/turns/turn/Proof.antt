@@ -1,9 +1,9 @@
 -- `toposort::turns::turn` meets its contract: after each link of the front the area is as the state within the turn lays it.
 -- Rests on Turning.
-use Prim.Native.Nat.{ℕ, _+_, _-_, _*_, _^_, _≤_, _<_}
+use Prim.Native.Nat.{_+_, _-_, _*_, _^_, _≤_, _<_}
 use native.Mathlib.Omega.{arith}
 use borrow.Author.Needs.{needs}
-use mathlib.Core.Path.{_≡_, refl, sym, ap, _∙_}
+use mathlib.Core.Path.{_≡_, ap, _∙_}
 use lib.ListN.{length}
 use Rattle.paper.specs.Order.{Queue, queueAfter}
 use Rattle.order_theory.specs.Queued.{frontAt, midTurn}
