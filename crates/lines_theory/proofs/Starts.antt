@@ -1,6 +1,7 @@
 -- Where lists start that stand one after the other, and how they are read from there on.
 -- Rests on lib.Seq (reading an append).
-use Prim.Native.Nat.{ℕ, zero, suc, _+_, _≤_, _<_}
+use Prim.Native.Nat.{ℕ, zero, suc, _+_, _-_, _≤_, _<_}
+use native.Mathlib.Decide.{decLt}
 use native.Mathlib.Omega.{arith}
 use mathlib.Core.Path.{_≡_, refl, sym, ap, _∙_}
 use mathlib.Core.List.{List, [], _∷_, _++_, map, flatten, append-assoc}
@@ -40,6 +41,20 @@ starts-room n [] i h = absurd (omega arith)
 starts-room n (l ∷ ls) zero h = omega arith
 starts-room n (l ∷ ls) (suc i) h = omega (arith, starts-room (n + length l) ls i (omega arith))
 
+-- a list ends where any later one starts, or before
+pub starts-later : (n : ℕ) (ls : List (List ℕ)) (i j : ℕ) → i < j → j ≤ length ls
+    → getD (starts n ls) i 0 + length (getD ls i []) ≤ getD (starts n ls) j 0
+starts-later n ls i zero l h = absurd (omega arith)
+starts-later n ls i (suc j) l h = go (decLt i j) (starts-later n ls i j)
+  where
+    last : (i j : ℕ) → i < suc j → (i < j → ⊥) → i ≡ j
+    last i j l ge = omega arith
+
+    go : Dec (i < j) → (i < j → j ≤ length ls → getD (starts n ls) i 0 + length (getD ls i []) ≤ getD (starts n ls) j 0)
+        → getD (starts n ls) i 0 + length (getD ls i []) ≤ getD (starts n ls) (suc j) 0
+    go (yes lt) ih = omega (arith, ih lt (omega arith), starts-next n ls j (omega arith))
+    go (no ge) ih = rw (last i j l ge) (omega (arith, starts-next n ls j (omega arith)))
+
 -- element j of list i is read from the start of list i on
 getD-behind : (p : List ℕ) (ls : List (List ℕ)) (n i j : ℕ) → length p ≡ n → i < length ls → j < length (getD ls i [])
     → getD (p ++ flatten ls) (getD (starts n ls) i 0 + j) 0 ≡ getD (getD ls i []) j 0
@@ -55,3 +70,30 @@ getD-behind p (x ∷ ls) n (suc i) j e h l =
 pub getD-flatten : (ls : List (List ℕ)) (i j : ℕ) → i < length ls → j < length (getD ls i [])
     → getD (flatten ls) (getD (starts 0 ls) i 0 + j) 0 ≡ getD (getD ls i []) j 0
 getD-flatten ls i j h l = getD-behind [] ls 0 i j refl h l
+
+-- every place of the whole is a place of one of the lists
+pub record Located (n : ℕ) (ls : List (List ℕ)) (x : ℕ) : Type 0 where
+  pub which : ℕ
+  pub offset : ℕ
+  pub known : which < length ls
+  pub inside : offset < length (getD ls which [])
+  pub place : n + x ≡ getD (starts n ls) which 0 + offset
+
+pub located : (n : ℕ) (ls : List (List ℕ)) (x : ℕ) → x < sum (map length ls) → Located n ls x
+unfolding starts
+located n [] x h = absurd (omega arith)
+located n (l ∷ ls) x h = go (decLt x (length l)) (λ less. located (n + length l) ls (x - length l) less)
+  where
+    further : Located (n + length l) ls (x - length l) → (x < length l → ⊥) → Located n (l ∷ ls) x
+    further r ge =
+        record {
+          which = suc (r .which);
+          offset = r .offset;
+          known = omega (arith, r .known);
+          inside = r .inside;
+          place = omega (arith, r .place);
+        }
+
+    go : Dec (x < length l) → (x - length l < sum (map length ls) → Located (n + length l) ls (x - length l)) → Located n (l ∷ ls) x
+    go (yes lt) behind = record { which = 0; offset = x; known = omega arith; inside = lt; place = refl }
+    go (no ge) behind = further (behind (omega (arith, ge, h))) ge

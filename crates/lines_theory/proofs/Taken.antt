@@ -43,12 +43,17 @@ module _ {b us : List ℕ} {f : Frontier} {v : ℕ} (s : Sound b) (i : Lined b u
   pub taken-from : map (λ e. e .port) (taking b v f .taken) ≡ sources b v
   taken-from = taken-ports (sources b v) (record { taken = []; ends = f .ends }) port-enough
 
+  pub taken-so-far : (j : ℕ) → map (λ e. e .port) (takeAll (take j (sources b v)) (record { taken = []; ends = f .ends }) .taken) ≡ take j (sources b v)
+  taken-so-far j =
+      taken-ports (take j (sources b v)) (record { taken = []; ends = f .ends })
+      (λ p. omega (arith, port-enough p, times-take p j (sources b v)))
+
   -- .. so at each of its linked inputs, in turn, an end stands at the port
   pub port-stands : (j : ℕ) → j < length (sources b v)
       → 1 ≤ times (getD (sources b v) j 0) (map (λ e. e .port) (takeAll (take j (sources b v)) (record { taken = []; ends = f .ends }) .ends))
   port-stands j h =
       let all = taken-times (λ e. e .port) p (take j (sources b v)) before in
-      let gone = ap (times p) (taken-ports (take j (sources b v)) before (λ q. omega (arith, port-enough q, times-take q j (sources b v)))) in
+      let gone = ap (times p) (taken-so-far j) in
       omega
       (arith, all, gone, port-enough p, times-take p (suc j) (sources b v), count-take-suc (eqb p) (sources b v) j h, one-eq p p refl)
     where

@@ -1,15 +1,18 @@
 -- Reading what is written: every section of an area that holds tables has the tables' contents.
 -- Rests on lists.Laid (lists laid one after the other) and on the sizes of the tables.
-use Prim.Native.Nat.{ℕ, suc, _+_, _≤_, _<_}
+use Prim.Native.Nat.{ℕ, suc, _+_, _-_, _*_, _≤_, _<_}
 use native.Mathlib.Nat.{zero-add}
+use native.Mathlib.Decide.{decLt}
 use native.Mathlib.Omega.{arith}
 use mathlib.Core.Path.{_≡_, refl, sym, ap, _∙_, subst}
+use mathlib.Core.Logic.{inr}
 use mathlib.Core.List.{List, [], map, flatten}
 use lib.ListN.{length, getD, take}
 use lib.Seq.{sets, length-sets, ext-getD}
 use Rattle.lists.specs.Lists.{sum, pad}
-use Rattle.lists.proofs.Sections.{getD-sets-in, length-part, getD-part}
+use Rattle.lists.proofs.Sections.{getD-sets-in, getD-sets-out, length-part, getD-part}
 use Rattle.paper.specs.Map.{N, L}
+use Rattle.paper.proofs.Area.{W-sum}
 use Rattle.paper.specs.Lines.{Tables, tables}
 use Rattle.paper.specs.Area.{Section, lineCount, sections, size, before, start, W, wordOf, section, part, K, orderOf, position, linesOf, nodesOf, starts, contents, prepared, written}
 use Rattle.lines_theory.specs.Sized.{Sized, laid, holding}
@@ -48,6 +51,56 @@ unfolding start W
 section-room b s =
     subst (λ (r : Section). sum (map (size b) (take (before s) sections)) + size b r ≤ sum (map (size b) sections)) (at-before s)
     (laid-room (size b) sections (before s) lineCount (before-eight s))
+
+-- every word of the area is a word of one section
+pub record InSection (b : List ℕ) (x : ℕ) : Type 0 where
+  pub section : Section
+  pub offset : ℕ
+  pub inside : offset < size b section
+  pub place : x ≡ start b section + offset
+
+-- where each section starts, in numbers
+abbrev pub startIs : ℕ → ℕ → Section → ℕ
+startIs n l Section.lineCount = 0
+startIs n l Section.order = 1
+startIs n l Section.positions = 1 + n
+startIs n l Section.nodeStarts = 1 + 2 * n
+startIs n l Section.linesOfNodes = 2 + 3 * n
+startIs n l Section.lineStarts = 2 + 4 * n + 2 * l
+startIs n l Section.nodesOfLines = 3 + 5 * n + 3 * l
+startIs n l Section.scratch = 3 + 6 * n + 5 * l
+
+pub start-is : (b : List ℕ) (s : Section) → start b s ≡ startIs (N b) (L b) s
+unfolding start size
+start-is b Section.lineCount = omega arith
+start-is b Section.order = omega arith
+start-is b Section.positions = omega arith
+start-is b Section.nodeStarts = omega arith
+start-is b Section.linesOfNodes = omega arith
+start-is b Section.lineStarts = omega arith
+start-is b Section.nodesOfLines = omega arith
+start-is b Section.scratch = omega arith
+
+in-section : (b : List ℕ) (x : ℕ) → x < W b → InSection b x
+unfolding size
+in-section b x h =
+    pick (decLt x 1) (decLt x (1 + N b)) (decLt x (1 + 2 * N b)) (decLt x (2 + 3 * N b)) (decLt x (2 + 4 * N b + 2 * L b))
+    (decLt x (3 + 5 * N b + 3 * L b))
+    (decLt x (3 + 6 * N b + 5 * L b))
+  where
+    at : (s : Section) → start b s ≤ x → x < start b s + size b s → InSection b x
+    at s low high = record { section = s; offset = x - start b s; inside = omega arith; place = omega arith }
+
+    pick : Dec (x < 1) → Dec (x < 1 + N b) → Dec (x < 1 + 2 * N b) → Dec (x < 2 + 3 * N b) → Dec (x < 2 + 4 * N b + 2 * L b)
+        → Dec (x < 3 + 5 * N b + 3 * L b) → Dec (x < 3 + 6 * N b + 5 * L b) → InSection b x
+    pick (yes l) d e f g j k = at Section.lineCount (omega (arith, start-is b Section.lineCount)) (omega (arith, start-is b Section.lineCount))
+    pick (no c) (yes l) e f g j k = at Section.order (omega (arith, start-is b Section.order)) (omega (arith, start-is b Section.order))
+    pick (no c) (no d) (yes l) f g j k = at Section.positions (omega (arith, start-is b Section.positions)) (omega (arith, start-is b Section.positions))
+    pick (no c) (no d) (no e) (yes l) g j k = at Section.nodeStarts (omega (arith, start-is b Section.nodeStarts)) (omega (arith, start-is b Section.nodeStarts))
+    pick (no c) (no d) (no e) (no f) (yes l) j k = at Section.linesOfNodes (omega (arith, start-is b Section.linesOfNodes)) (omega (arith, start-is b Section.linesOfNodes))
+    pick (no c) (no d) (no e) (no f) (no g) (yes l) k = at Section.lineStarts (omega (arith, start-is b Section.lineStarts)) (omega (arith, start-is b Section.lineStarts))
+    pick (no c) (no d) (no e) (no f) (no g) (no j) (yes l) = at Section.nodesOfLines (omega (arith, start-is b Section.nodesOfLines)) (omega (arith, start-is b Section.nodesOfLines))
+    pick (no c) (no d) (no e) (no f) (no g) (no j) (no k) = at Section.scratch (omega (arith, start-is b Section.scratch)) (omega (arith, start-is b Section.scratch, W-sum b))
 
 module _ {b : List ℕ} {t : Tables} (sized : Sized b t) where
   -- every section has room for its contents
@@ -91,6 +144,24 @@ module _ {b : List ℕ} {t : Tables} (sized : Sized b t) where
     long : length (holding b t a) ≡ length a
     unfolding holding
     long = length-sets a 0 (laid b t)
+
+    past : (x : ℕ) → W b ≤ x → getD (holding b t a) x 0 ≡ getD a x 0
+    unfolding holding
+    past x h = getD-sets-out a 0 (laid b t) x 0 (inr (omega (arith, laid-long)))
+
+    -- .. and an area with these words, and a's words past the map's, holds the tables
+    pub holding-is : {m : List ℕ} → length m ≡ length a → ((s : Section) (i : ℕ) → i < size b s → wordOf b m s i ≡ getD (contents t s) i 0)
+        → ((x : ℕ) → W b ≤ x → getD m x 0 ≡ getD a x 0) → m ≡ holding b t a
+    unfolding wordOf
+    holding-is {m} same-length words beyond = ext-getD 0 m (holding b t a) (same-length ∙ sym long) (λ x h. go x (decLt x (W b)))
+      where
+        within : (x : ℕ) → InSection b x → getD m x 0 ≡ getD (holding b t a) x 0
+        within x at =
+            rw (at .place) (words (at .section) (at .offset) (at .inside) ∙ sym (word-held (at .section) (at .offset) (at .inside)))
+
+        go : (x : ℕ) → Dec (x < W b) → getD m x 0 ≡ getD (holding b t a) x 0
+        go x (yes lt) = within x (in-section b x lt)
+        go x (no ge) = beyond x (omega arith) ∙ sym (past x (omega arith))
 
     -- ---- the tables, one by one
 

@@ -1,77 +1,22 @@
 -- The links by port list exactly 01's "by port, then listing order": a node's part of them is its outgoing, or incoming, links.
 -- Rests on order_theory.Ports and the counting sort's definitions.
-use Prim.Native.Nat.{ℕ, zero, suc, _+_, _-_, _≤_, _<_}
+use Prim.Native.Nat.{ℕ, suc, _+_, _-_, _<_}
 use native.Mathlib.Omega.{arith}
-use native.Mathlib.Nat.{zero-add, add-zero}
+use native.Mathlib.Nat.{add-zero}
 use mathlib.Core.Path.{_≡_, sym, ap, ap₂, _∙_}
 use mathlib.Core.Bool.{false}
-use mathlib.Core.List.{List, [], _∷_, _++_, map, flatMap, append-nil, append-assoc}
-use lib.ListN.{length, getD, take, length-append}
-use lib.Seq.{take-at, drop-at}
+use mathlib.Core.List.{List, [], _++_, map, flatMap, append-nil}
+use lib.ListN.{getD}
 use lib.Dec.{eqb}
-use Rattle.lists.specs.Lists.{from, upto, keep, times}
+use Rattle.lists.specs.Lists.{from, upto, keep}
 use Rattle.lists.proofs.Sections.{part}
-use Rattle.lists.proofs.Upto.{keep-none, flatMap-from, flatMap-none, upto-suc, from-add, length-table, getD-table, table-of, flatMap-append}
-use Rattle.lists.proofs.Count.{keep-upto, length-keep, eqb-sym, count-map, count-same}
+use Rattle.lists.proofs.Upto.{keep-none, flatMap-from, flatMap-none, from-add, length-table, getD-table, flatMap-append}
+use Rattle.lists.proofs.Count.{keep-upto}
 use Rattle.paper.specs.Map.{N, L, P, ins, outs, firstPort, input, output, inputs, outputs, sourcePort, targetPort, portLinks, inLinks, outLinks}
 use Rattle.order_theory.specs.Sound.{Sound}
 use Rattle.order_theory.proofs.Ports.{ports-end, source-input, target-output, links-at-output, links-at-input}
 use Rattle.counting_sort.specs.Sorted.{below, placesOf, sortedBy}
-use Rattle.counting_sort.proofs.Counting.{below-zero, below-suc}
-
--- how often a key stands, by its places
-places-of : (ks : List ℕ) (q : ℕ) → length (placesOf ks q) ≡ times q ks
-unfolding placesOf
-places-of ks q =
-    length-keep (λ k. eqb (getD ks k 0) q) (upto (length ks))
-    ∙ count-same (λ k. eqb (getD ks k 0) q) (λ k. eqb q (getD ks k 0)) (λ k. eqb-sym (getD ks k 0) q) (upto (length ks))
-    ∙ sym (count-map (eqb q) (λ k. getD ks k 0) (upto (length ks)))
-    ∙ ap (times q) (table-of ks 0)
-
--- all links at ports below q: as many as keys below q
-pub before-port : (ks : List ℕ) (q : ℕ) → length (flatMap (placesOf ks) (upto q)) ≡ below ks q
-unfolding flatMap
-before-port ks zero = sym (below-zero ks)
-before-port ks (suc q) =
-    ap length (ap (flatMap (placesOf ks)) (upto-suc q) ∙ flatMap-append (placesOf ks) (upto q) (q ∷ []))
-    ∙ length-append (flatMap (placesOf ks) (upto q)) (placesOf ks q ++ [])
-    ∙ ap₂ _+_ (before-port ks q) (ap length (append-nil (placesOf ks q)) ∙ places-of ks q)
-    ∙ sym (below-suc ks q)
-
--- the links at r ports from q on
-ports-part : (ks : List ℕ) (p q r : ℕ) → q + r ≤ p
-    → part (sortedBy ks p) (below ks q) (below ks (q + r) - below ks q) ≡ flatMap (placesOf ks) (from q r)
-unfolding sortedBy
-ports-part ks p q r h =
-    ap (λ (l : List ℕ). part l (below ks q) (below ks (q + r) - below ks q)) split
-    ∙ ap (take (below ks (q + r) - below ks q)) (drop-at (all q) (flatMap (placesOf ks) (from q r) ++ rest) (below ks q) (before-port ks q))
-    ∙ take-at (flatMap (placesOf ks) (from q r)) rest (below ks (q + r) - below ks q) size
-  where
-    all : ℕ → List ℕ
-    all n = flatMap (placesOf ks) (upto n)
-
-    rest : List ℕ
-    rest = flatMap (placesOf ks) (from (q + r) (p - (q + r)))
-
-    first-part : all (q + r) ≡ all q ++ flatMap (placesOf ks) (from q r)
-    first-part =
-        ap (flatMap (placesOf ks)) (from-add 0 q r) ∙ flatMap-append (placesOf ks) (upto q) (from (0 + q) r)
-        ∙ ap (λ (n : ℕ). all q ++ flatMap (placesOf ks) (from n r)) (zero-add q)
-
-    split : flatMap (placesOf ks) (upto p) ≡ all q ++ (flatMap (placesOf ks) (from q r) ++ rest)
-    split =
-        ap (λ (n : ℕ). all n) (between (q + r) p h)
-        ∙ (ap (flatMap (placesOf ks)) (from-add 0 (q + r) (p - (q + r))) ∙ flatMap-append (placesOf ks) (upto (q + r)) (from (0 + (q + r)) (p - (q + r))))
-        ∙ ap (λ (n : ℕ). all (q + r) ++ flatMap (placesOf ks) (from n (p - (q + r)))) (zero-add (q + r))
-        ∙ ap (λ (l : List ℕ). l ++ rest) first-part
-        ∙ append-assoc (all q) (flatMap (placesOf ks) (from q r)) rest
-      where
-        between : (m n : ℕ) → m ≤ n → n ≡ m + (n - m)
-        between m n h = omega arith
-
-    size : length (flatMap (placesOf ks) (from q r)) ≡ below ks (q + r) - below ks q
-    size =
-        omega (arith, sym (ap length first-part) ∙ before-port ks (q + r), length-append (all q) (flatMap (placesOf ks) (from q r)), before-port ks q)
+use Rattle.counting_sort.proofs.Parts.{keys-part}
 
 -- ---- what stands at a port, for the keys of a sound map
 
@@ -155,7 +100,7 @@ module _ {b : List ℕ} (s : Sound b) where
           (below (map f (upto (L b))) (firstPort b (suc v)) - below (map f (upto (L b))) (firstPort b v))
           ≡ links
       unfolding firstPort P
-      node-part f links e = ports-part (map f (upto (L b))) (P b) (firstPort b v) (ins b v + outs b v) (ports-end b v (N b) h) ∙ e
+      node-part f links e = keys-part (map f (upto (L b))) (P b) (firstPort b v) (ins b v + outs b v) (ports-end b v (N b) h) ∙ e
 
       pub out-part : part (sortedBy (map (sourcePort b) (upto (L b))) (P b)) (below (map (sourcePort b) (upto (L b))) (firstPort b v))
           (below (map (sourcePort b) (upto (L b))) (firstPort b (suc v)) - below (map (sourcePort b) (upto (L b))) (firstPort b v))

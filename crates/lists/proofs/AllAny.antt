@@ -20,6 +20,10 @@ module _ (f : ℕ → Bool) where
   pub all-true : (n : ℕ) → ((i : ℕ) → i < n → f i ≡ true) → all f (upto n) ≡ true
   all-true n h = all-from 0 n (λ i low high. h i (omega arith))
 
+  -- where a loop that counts up to n is left, all have passed
+  pub all-through : {i n : ℕ} → n ≤ i → ((j : ℕ) → j < i → f j ≡ true) → true ≡ all f (upto n)
+  all-through {i} {n} high h = sym (all-true n (λ j l. h j (omega arith)))
+
   -- one does not pass
   fails-from : (n k i : ℕ) → n ≤ i → i < n + k → f i ≡ false → all f (from n k) ≡ false
   fails-from n zero i low high e = absurd (nothing low high)

@@ -28,6 +28,12 @@ module _ {A : Type 0} where
   keep-nothing f [] h = refl
   keep-nothing f (x ∷ xs) h = rw (h x (List·Memᴰ·head refl)) (keep-nothing f xs (λ y m. h y (List·Memᴰ·tail m)))
 
+  -- tests that agree on the members keep the same
+  pub keep-members : (f g : A → Bool) (xs : List A) → ((x : A) → List·Memᴰ x xs → f x ≡ g x) → keep f xs ≡ keep g xs
+  keep-members f g [] h = refl
+  keep-members f g (x ∷ xs) h =
+      ap₂ (λ (t : Bool) (ys : List A). cond t (x ∷ ys) ys) (h x (List·Memᴰ·head refl)) (keep-members f g xs (λ y m. h y (List·Memᴰ·tail m)))
+
   pub keep-there : (f : A → Bool) {x : A} (xs : List A) → List·Memᴰ x (keep f xs) → List·Memᴰ x xs
   keep-there f [] m = m
   keep-there f {x} (y ∷ ys) m = go (f y) m (keep-there f ys)

@@ -34,7 +34,7 @@ module _ {A B : Type 0} where
       (arith, total-swap f xs ys, total-add (λ y. f x y + total (λ z. f z y) xs) (f x) (λ y. total (λ z. f z y) xs) (λ y. refl) ys)
 
 -- the sum of what stands at one number
-sum-none : (h : ℕ → ℕ) (k : ℕ) (xs : List ℕ) → times k xs ≡ 0 → total (λ x. cond (eqb k x) (h x) 0) xs ≡ 0
+pub sum-none : (h : ℕ → ℕ) (k : ℕ) (xs : List ℕ) → times k xs ≡ 0 → total (λ x. cond (eqb k x) (h x) 0) xs ≡ 0
 sum-none h k [] e = refl
 sum-none h k (x ∷ xs) e = go (eqb k x) refl (sum-none h k xs)
   where
@@ -43,7 +43,7 @@ sum-none h k (x ∷ xs) e = go (eqb k x) refl (sum-none h k xs)
     go true q ih = absurd (omega (arith, ap one q))
     go false q ih = omega (arith, ih (omega (arith, ap one q)))
 
-sum-once : (h : ℕ → ℕ) (k : ℕ) (xs : List ℕ) → times k xs ≡ 1 → total (λ x. cond (eqb k x) (h x) 0) xs ≡ h k
+pub sum-once : (h : ℕ → ℕ) (k : ℕ) (xs : List ℕ) → times k xs ≡ 1 → total (λ x. cond (eqb k x) (h x) 0) xs ≡ h k
 sum-once h k [] e = absurd (omega arith)
 sum-once h k (x ∷ xs) e = go (eqb k x) refl (sum-once h k xs)
   where

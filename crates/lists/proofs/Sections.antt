@@ -233,3 +233,43 @@ module _ {A : Type 0} where
       go j (yes h) e = outside j (inl h) (inl (omega arith))
       go j (no h) (yes k) = inside j (omega arith) k
       go j (no h) (no k) = outside j (inr (omega arith)) (inr (omega arith))
+
+  -- a section reads the same in two lists where its elements are the same
+  pub part-same : (m l : List A) (at n : ℕ) (d : A) → length m ≡ length l → at + n ≤ length l → ((i : ℕ) → i < n → getD m (at + i) d ≡ getD l (at + i) d)
+      → part m at n ≡ part l at n
+  part-same m l at n d long fits same =
+      ext-getD d (part m at n) (part l at n) (long-m ∙ sym (length-part l at n fits))
+      (λ i h. getD-part m at n i d (omega (arith, long-m)) ∙ same i (omega (arith, long-m)) ∙ sym (getD-part l at n i d (omega (arith, long-m))))
+    where
+      long-m : length (part m at n) ≡ n
+      long-m = length-part m at n (omega arith)
+
+  -- a list that holds us from p on and vs from q on, after them, and what l holds elsewhere
+  pub two-stored : (m l : List A) (p : ℕ) (us : List A) (q : ℕ) (vs : List A) (d : A) → length m ≡ length l → p + length us ≤ q → q + length vs ≤ length l
+      → ((i : ℕ) → i < length us → getD m (p + i) d ≡ getD us i d) → ((i : ℕ) → i < length vs → getD m (q + i) d ≡ getD vs i d)
+      → ((j : ℕ) → Apart j p (length us) → Apart j q (length vs) → getD m j d ≡ getD l j d) → m ≡ sets (sets l p us) q vs
+  two-stored m l p us q vs d long after fits first second rest =
+      ext-getD d m (sets (sets l p us) q vs) (long ∙ sym (length-sets (sets l p us) q vs ∙ length-sets l p us))
+      (λ j h. go j (decLt j p) (decLt j (p + length us)) (decLt j q) (decLt j (q + length vs)))
+    where
+      back : (j n : ℕ) → n ≤ j → j ≡ n + (j - n)
+      back j n h = omega arith
+
+      neither : (j : ℕ) → Apart j p (length us) → Apart j q (length vs) → getD m j d ≡ getD (sets (sets l p us) q vs) j d
+      neither j far away =
+          rest j far away ∙ sym (getD-sets-out (sets l p us) q vs j d away ∙ getD-sets-out l p us j d far)
+
+      go : (j : ℕ) → Dec (j < p) → Dec (j < p + length us) → Dec (j < q) → Dec (j < q + length vs)
+          → getD m j d ≡ getD (sets (sets l p us) q vs) j d
+      go j (yes x) y z w = neither j (inl x) (inl (omega arith))
+      go j (no x) (yes y) z w =
+          ap (λ (i : ℕ). getD m i d) (back j p (omega arith)) ∙ first (j - p) (omega arith)
+          ∙ sym (getD-sets-in l p us (j - p) d (omega arith) (omega arith))
+          ∙ ap (λ (i : ℕ). getD (sets l p us) i d) (sym (back j p (omega arith)))
+          ∙ sym (getD-sets-out (sets l p us) q vs j d (inl (omega arith)))
+      go j (no x) (no y) (yes z) w = neither j (inr (omega arith)) (inl z)
+      go j (no x) (no y) (no z) (yes w) =
+          ap (λ (i : ℕ). getD m i d) (back j q (omega arith)) ∙ second (j - q) (omega arith)
+          ∙ sym (getD-sets-in (sets l p us) q vs (j - q) d (omega arith) (rw length-sets fits))
+          ∙ ap (λ (i : ℕ). getD (sets (sets l p us) q vs) i d) (sym (back j q (omega arith)))
+      go j (no x) (no y) (no z) (no w) = neither j (inr (omega arith)) (inr (omega arith))

@@ -5,7 +5,7 @@ use native.Mathlib.Decide.{ℕ-discrete, decLt}
 use native.Mathlib.Omega.{arith}
 use borrow.Author.Tests.{lt-ltb, le-ltb, lt-leb, le-leb}
 use mathlib.Core.Path.{_≡_, refl, sym, ap, _∙_, subst}
-use mathlib.Core.Bool.{Bool, true, false, not, _&&_, _||_}
+use mathlib.Core.Bool.{Bool, true, false, not, _&&_, _||_, true≢false, false≢true}
 use mathlib.Core.List.{List, [], _∷_}
 use lib.Dec.{T, eqb, ltb, leb, eqb→eq, eqb-refl, ltb→lt, lt→ltb, leb→le, le→leb}
 use Rattle.lists.specs.Lists.{from, upto, all, rising, Rising}
@@ -86,3 +86,36 @@ not-ltb a b = split (decLt a b)
 pub or-false-both : (a b : Bool) → (a || b) ≡ false → (a ≡ false) × (b ≡ false)
 or-false-both true b e = (e, cc)
 or-false-both false b e = (refl, e)
+
+-- ---- an answer and what it says
+
+pub says-yes : {A : Type 0} → A → Says true A
+says-yes x = record { to = λ t. x; back = λ y. tt }
+
+pub says-no : {A : Type 0} → (A → ⊥) → Says false A
+says-no f = record { to = λ t. absurd t; back = λ x. absurd (f x) }
+
+-- two tests that say the same are the same
+pub same-says : {s t : Bool} {A : Type 0} → Says s A → Says t A → s ≡ t
+same-says {s} {t} p q = go s t p q
+  where
+    go : {A : Type 0} (s t : Bool) → Says s A → Says t A → s ≡ t
+    go true true p q = refl
+    go true false p q = absurd (q .back (p .to tt))
+    go false true p q = absurd (p .back (q .to tt))
+    go false false p q = refl
+
+-- what is known where a test's answer is asked for, as `if !test` asks
+pub holds : (r : Bool) → not r ≡ false → T r
+holds true e = tt
+holds false e = absurd (true≢false e)
+
+pub granted : {r : Bool} {A : Type 0} → Says r A → not r ≡ false → A
+granted {r} said e = said .to (holds r e)
+
+pub denied : {r : Bool} {A : Type 0} → Says r A → not r ≡ true → A → ⊥
+denied {r} said e x = fails r e (said .back x)
+  where
+    fails : (r : Bool) → not r ≡ true → T r → ⊥
+    fails true e t = false≢true e
+    fails false e t = t

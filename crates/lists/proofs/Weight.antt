@@ -4,7 +4,7 @@ use Prim.Native.Nat.{ℕ, zero, suc, _+_, _≤_, _<_}
 use native.Mathlib.Omega.{arith}
 use mathlib.Core.Path.{_≡_, refl, sym, ap, _∙_}
 use mathlib.Core.Bool.{Bool, true, false, cond, _&&_}
-use mathlib.Core.List.{List, [], _∷_, _++_}
+use mathlib.Core.List.{List, [], _∷_, _++_, map, flatten}
 use lib.ListN.{length}
 use lib.Dec.{eqb}
 use Rattle.lists.specs.Lists.{from, upto, one, keep, count, times}
@@ -28,6 +28,16 @@ module _ {A : Type 0} where
   pub count-total : (f : A → Bool) (g : A → ℕ) → ((x : A) → one (f x) ≡ g x) → (xs : List A) → count f xs ≡ total g xs
   count-total f g e [] = refl
   count-total f g e (x ∷ xs) = omega (arith, count-total f g e xs, e x)
+
+pub total-map : {A B : Type 0} (f : B → ℕ) (g : A → B) (xs : List A) → total f (map g xs) ≡ total (λ x. f (g x)) xs
+total-map f g [] = refl
+total-map f g (x ∷ xs) = ap (λ (n : ℕ). f (g x) + n) (total-map f g xs)
+
+-- how often a number stands in all lists together
+pub times-flatten : (n : ℕ) (ls : List (List ℕ)) → times n (flatten ls) ≡ total (times n) ls
+unfolding flatten
+times-flatten n [] = refl
+times-flatten n (l ∷ ls) = omega (arith, count-append (eqb n) l (flatten ls), times-flatten n ls)
 
 pub total-le : (f g : ℕ → ℕ) (n : ℕ) → ((i : ℕ) → i < n → f i ≤ g i) → total f (upto n) ≤ total g (upto n)
 total-le f g n h = go 0 n (λ i l m. h i (omega arith))

@@ -10,7 +10,9 @@ use lib.Dec.{eqb}
 use borrow.Author.Tests.{eq-eqb, ne-eqb}
 use Rattle.lists.specs.Lists.{upto, keep}
 use Rattle.paper.specs.Map.{
+  N,
   L,
+  P,
   ins,
   outs,
   linkFrom,
@@ -37,6 +39,18 @@ ports-end b u (suc v) h = go (ℕ-discrete u v) (ports-end b u v)
         → firstPort b u + (ins b u + outs b u) ≤ firstPort b v + (ins b v + outs b v)
     go (yes e) ih = subst (λ (w : ℕ). firstPort b u + (ins b u + outs b u) ≤ firstPort b w + (ins b w + outs b w)) e (omega arith)
     go (no ne) ih = omega (arith, ih (omega arith))
+
+-- no node's first port is past the last port
+pub ports-below : (b : List ℕ) (v : ℕ) → v ≤ N b → firstPort b v ≤ P b
+unfolding P
+ports-below b v h = go (decLt v (N b))
+  where
+    last : (v m : ℕ) → v ≤ m → (v < m → ⊥) → v ≡ m
+    last v m le ge = omega arith
+
+    go : Dec (v < N b) → firstPort b v ≤ firstPort b (N b)
+    go (yes lt) = omega (arith, ports-end b v (N b) lt)
+    go (no ge) = subst (λ (m : ℕ). firstPort b v ≤ firstPort b m) (last v (N b) h ge) (omega arith)
 
 -- one number is a port of one node
 same-node : (b : List ℕ) (u v x y : ℕ) → x < ins b u + outs b u → y < ins b v + outs b v → firstPort b u + x ≡ firstPort b v + y → u ≡ v

@@ -24,7 +24,7 @@ before-says absent y = itself _
 before-says (at i) absent = itself _
 before-says (at i) (at j) = lt-says i j
 
-starts-say : (start : ℕ → ℕ) (n end : ℕ) → Says (startsWell start n end) (Starts start n end)
+pub starts-say : (start : ℕ → ℕ) (n end : ℕ) → Says (startsWell start n end) (Starts start n end)
 unfolding startsWell
 starts-say start n end =
     reworded (λ p. record { begins = p .0 .0; rises = p .0 .1; ends = p .1 }) (λ s. ((s .begins, s .rises), s .ends))

@@ -16,9 +16,9 @@ use Rattle.order_theory.proofs.Refusals.{sound}
 use Rattle.stepmap.specs.Formed.{ReadWell}
 use Rattle.counting_sort.specs.Sorted.{below, startsBy, sortedBy}
 use Rattle.counting_sort.proofs.Counting.{below-all}
+use Rattle.counting_sort.proofs.Parts.{before-key}
 use Rattle.links_by_port.specs.Tabled.{Roomy, byPort}
 use Rattle.links_by_port.proofs.Writing.{source-below}
-use Rattle.links_by_port.proofs.NodeLinks.{before-port}
 use Rattle.toposort.specs.Standing.{Ordering, laid}
 use Rattle.toposort.specs.Laid.{firstsAt, keysAt, startsAt, sortedAt, countsAt, Ready, indexed, orderLaid}
 
@@ -36,7 +36,7 @@ module _ {b a : List ℕ} {n l p : ℕ} (ready : Ready b a n l p) where
   pub long-sorted : length (sortedBy ks p) ≡ l
   unfolding sortedBy
   long-sorted =
-      before-port ks p
+      before-key ks p
       ∙ below-all ks p
       (λ k h. let lt : k < l = omega (arith, length-table (sourcePort b) l) in
       omega (arith, getD-table (sourcePort b) l k 0 lt, source-below (ready .read) (sound b (ready .links)) lt))

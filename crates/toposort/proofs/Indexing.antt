@@ -1,9 +1,8 @@
 -- What is read from the links by output port in the area: a node's first port, where its links start and end, and the links.
 -- Rests on links_by_port.NodeLinks.
 use Prim.Native.Nat.{ℕ, suc, _+_, _-_, _≤_, _<_}
-use native.Mathlib.Decide.{decLt}
 use native.Mathlib.Omega.{arith}
-use mathlib.Core.Path.{_≡_, sym, ap, _∙_, subst}
+use mathlib.Core.Path.{_≡_, sym, ap, _∙_}
 use mathlib.Core.List.{List, map}
 use lib.ListN.{length, getD}
 use Rattle.lists.specs.Lists.{upto}
@@ -11,7 +10,6 @@ use Rattle.lists.proofs.Sections.{part, length-part, getD-part}
 use Rattle.lists.proofs.Upto.{length-table, getD-table}
 use Rattle.paper.specs.Map.{N, L, P, firstPort, sourcePort, outLinks}
 use Rattle.order_theory.specs.Sound.{Sound}
-use Rattle.order_theory.proofs.Ports.{ports-end}
 use Rattle.order_theory.proofs.Refusals.{sound}
 use Rattle.counting_sort.specs.Sorted.{below, startsBy}
 use Rattle.counting_sort.proofs.Counting.{below-le, below-length}
@@ -25,18 +23,6 @@ keys b = map (sourcePort b) (upto (L b))
 module _ {b a : List ℕ} {n order firsts starts sorted counts : ℕ} (index : Indexed b a n order firsts starts sorted counts) where
   pub is-sound : Sound b
   is-sound = sound b (index .links)
-
-  -- no node's first port is past the last port
-  pub ports-below : (v : ℕ) → v ≤ n → firstPort b v ≤ P b
-  unfolding P
-  ports-below v h = go (decLt v (N b))
-    where
-      last : (v m : ℕ) → v ≤ m → (v < m → ⊥) → v ≡ m
-      last v m le ge = omega arith
-
-      go : Dec (v < N b) → firstPort b v ≤ firstPort b (N b)
-      go (yes lt) = omega (arith, ports-end b v (N b) lt)
-      go (no ge) = subst (λ (m : ℕ). firstPort b v ≤ firstPort b m) (last v (N b) (omega (arith, index .read .nodes)) ge) (omega arith)
 
   pub first-is : (v : ℕ) → v ≤ n → getD a (firsts + v) 0 ≡ firstPort b v
   first-is v h =

@@ -102,6 +102,10 @@ module _ {b a : List ℕ} {n l p order firsts keys starts sorted counts : ℕ} (
             ∙ begun .index .sorted-stand;
       }
 
+  pub index-under : Indexed b (sets a keys (map (linkTo b) (upto l))) n order firsts starts sorted counts
+  unfolding written
+  index-under = index
+
   module _ {a₁ : List ℕ} (e₁ : a₁ ≡ sets (sets a keys (map (linkTo b) (upto l))) counts (openInputs b n [])) where
     long₁ : length a₁ ≡ length a
     long₁ =

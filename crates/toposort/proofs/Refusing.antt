@@ -1,4 +1,4 @@
--- How a refusal, or none, is passed up with its area; and that what ordering laid is gone once the words are 0 again.
+-- How a refusal, or none, is passed up with its area; and that what ordering laid is gone once all the words are written.
 -- Rests on Composing and lists.Sections.
 use Prim.Native.Nat.{ℕ, _+_, _*_, _≤_}
 use native.Mathlib.Omega.{arith}
@@ -71,80 +71,79 @@ before [] vs e = cc
 before (passed ∷ us) vs e = before us vs e
 before (refusal m w ∷ us) vs e = e
 
--- ---- the words at 0 again
+-- ---- what ordering laid is gone once all the words are written
 
 module _ {b a : List ℕ} {n l p : ℕ} (ready : Ready b a n l p) where
-  zeros : List ℕ
-  zeros = replicate (7 + 10 * n + 9 * l + 2 * p) 0
+  module _ (ws : List ℕ) (many : length ws ≡ 7 + 10 * n + 9 * l + 2 * p) where
+    -- one section under the words
+    under : (m : List ℕ) (at : ℕ) (vs : List ℕ) → length m ≡ length a → at + length vs ≤ 7 + 10 * n + 9 * l + 2 * p
+        → sets (sets m at vs) 0 ws ≡ sets m 0 ws
+    under m at vs long h = sets-under m at vs 0 ws 0 (omega arith) (omega (arith, many)) (omega (arith, many, long, ready .room))
 
-  many : length zeros ≡ 7 + 10 * n + 9 * l + 2 * p
-  unfolding zeros
-  many = length-replicate (7 + 10 * n + 9 * l + 2 * p) 0
+    pub written-over : sets (orderLaid b a n l p) 0 ws ≡ sets a 0 ws
+    unfolding orderLaid indexed byPort laid
+    written-over =
+        under a₆ (countsAt n l p) (openInputs b n (queueAfter b n .followed)) (keep a₅ 1 joined long₅) (omega (arith, length-open b n (queueAfter b n .followed)))
+        ∙ under a₅ 1 joined long₅ (omega (arith, room (sound b (ready .links)) (queued (sound b (ready .links)) n), ready .read .nodes))
+        ∙ under a₄ (keysAt n l) targets long₄ (omega (arith, length-table (linkTo b) l))
+        ∙ under a₃ (sortedAt n l p) (sortedBy ks p) long₃ (omega (arith, long-sorted ready))
+        ∙ under a₂ (startsAt n l) (startsBy ks p) long₂ (omega (arith, long-starts ready))
+        ∙ under a₁ (keysAt n l) ks long₁ (omega (arith, length-table (sourcePort b) l))
+        ∙ under a (firstsAt n l) table refl (omega (arith, length-table (firstPort b) (n + 1)))
+      where
+        keep : (x : List ℕ) (at : ℕ) (vs : List ℕ) → length x ≡ length a → length (sets x at vs) ≡ length a
+        keep x at vs long = length-sets x at vs ∙ long
 
-  -- one section under the zeros
-  under : (m : List ℕ) (at : ℕ) (vs : List ℕ) → length m ≡ length a → at + length vs ≤ 7 + 10 * n + 9 * l + 2 * p
-      → sets (sets m at vs) 0 zeros ≡ sets m 0 zeros
-  under m at vs long h = sets-under m at vs 0 zeros 0 (omega arith) (omega (arith, many)) (omega (arith, many, long, ready .room))
+        table : List ℕ
+        table = map (firstPort b) (upto (n + 1))
+
+        ks : List ℕ
+        ks = map (sourcePort b) (upto l)
+
+        targets : List ℕ
+        targets = map (linkTo b) (upto l)
+
+        joined : List ℕ
+        joined = queueAfter b n .joined
+
+        a₁ : List ℕ
+        a₁ = sets a (firstsAt n l) table
+
+        long₁ : length a₁ ≡ length a
+        long₁ = length-sets a (firstsAt n l) table
+
+        a₂ : List ℕ
+        a₂ = sets a₁ (keysAt n l) ks
+
+        long₂ : length a₂ ≡ length a
+        long₂ = keep a₁ (keysAt n l) ks long₁
+
+        a₃ : List ℕ
+        a₃ = sets a₂ (startsAt n l) (startsBy ks p)
+
+        long₃ : length a₃ ≡ length a
+        long₃ = keep a₂ (startsAt n l) (startsBy ks p) long₂
+
+        a₄ : List ℕ
+        a₄ = sets a₃ (sortedAt n l p) (sortedBy ks p)
+
+        long₄ : length a₄ ≡ length a
+        long₄ = keep a₃ (sortedAt n l p) (sortedBy ks p) long₃
+
+        a₅ : List ℕ
+        a₅ = sets a₄ (keysAt n l) targets
+
+        long₅ : length a₅ ≡ length a
+        long₅ = keep a₄ (keysAt n l) targets long₄
+
+        a₆ : List ℕ
+        a₆ = sets a₅ 1 joined
 
   pub cleared-again : {m r : List ℕ} → m ≡ orderLaid b a n l p → r ≡ sets m 0 (replicate (7 + 10 * n + 9 * l + 2 * p) 0) → r ≡ zeroed a n l p
-  unfolding orderLaid indexed byPort laid zeroed zeros
-  cleared-again {m} e f =
-      f ∙ ap (λ (x : List ℕ). sets x 0 zeros) e
-      ∙ under a₆ (countsAt n l p) (openInputs b n (queueAfter b n .followed)) (keep a₅ 1 joined long₅) (omega (arith, length-open b n (queueAfter b n .followed)))
-      ∙ under a₅ 1 joined long₅ (omega (arith, room (sound b (ready .links)) (queued (sound b (ready .links)) n), ready .read .nodes))
-      ∙ under a₄ (keysAt n l) targets long₄ (omega (arith, length-table (linkTo b) l))
-      ∙ under a₃ (sortedAt n l p) (sortedBy ks p) long₃ (omega (arith, long-sorted ready))
-      ∙ under a₂ (startsAt n l) (startsBy ks p) long₂ (omega (arith, long-starts ready))
-      ∙ under a₁ (keysAt n l) ks long₁ (omega (arith, length-table (sourcePort b) l))
-      ∙ under a (firstsAt n l) table refl (omega (arith, length-table (firstPort b) (n + 1)))
-    where
-      keep : (x : List ℕ) (at : ℕ) (vs : List ℕ) → length x ≡ length a → length (sets x at vs) ≡ length a
-      keep x at vs long = length-sets x at vs ∙ long
-
-      table : List ℕ
-      table = map (firstPort b) (upto (n + 1))
-
-      ks : List ℕ
-      ks = map (sourcePort b) (upto l)
-
-      targets : List ℕ
-      targets = map (linkTo b) (upto l)
-
-      joined : List ℕ
-      joined = queueAfter b n .joined
-
-      a₁ : List ℕ
-      a₁ = sets a (firstsAt n l) table
-
-      long₁ : length a₁ ≡ length a
-      long₁ = length-sets a (firstsAt n l) table
-
-      a₂ : List ℕ
-      a₂ = sets a₁ (keysAt n l) ks
-
-      long₂ : length a₂ ≡ length a
-      long₂ = keep a₁ (keysAt n l) ks long₁
-
-      a₃ : List ℕ
-      a₃ = sets a₂ (startsAt n l) (startsBy ks p)
-
-      long₃ : length a₃ ≡ length a
-      long₃ = keep a₂ (startsAt n l) (startsBy ks p) long₂
-
-      a₄ : List ℕ
-      a₄ = sets a₃ (sortedAt n l p) (sortedBy ks p)
-
-      long₄ : length a₄ ≡ length a
-      long₄ = keep a₃ (sortedAt n l p) (sortedBy ks p) long₃
-
-      a₅ : List ℕ
-      a₅ = sets a₄ (keysAt n l) targets
-
-      long₅ : length a₅ ≡ length a
-      long₅ = keep a₄ (keysAt n l) targets long₄
-
-      a₆ : List ℕ
-      a₆ = sets a₅ 1 joined
+  unfolding zeroed
+  cleared-again e f =
+      let zeros : List ℕ = replicate (7 + 10 * n + 9 * l + 2 * p) 0 in
+      f ∙ ap (λ (x : List ℕ). sets x 0 zeros) e ∙ written-over zeros (length-replicate (7 + 10 * n + 9 * l + 2 * p) 0)
 
   -- ---- the two answers of the ordering, passed up
 

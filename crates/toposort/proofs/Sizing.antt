@@ -25,7 +25,7 @@ Sizes = ℕ × ℕ × ℕ
 
 -- ---- 3: the room for W words
 
-words : {b : List ℕ} {n l p : ℕ} → ReadWell b n l p → W b ≡ 7 + 10 * n + 9 * l + 2 * p
+pub words : {b : List ℕ} {n l p : ℕ} → ReadWell b n l p → W b ≡ 7 + 10 * n + 9 * l + 2 * p
 words {b} read = omega (arith, W-sum b, read .nodes, read .links, read .ports)
 
 module _ {b : List ℕ} {n l p : ℕ} (read : ReadWell b n l p) (a : List ℕ) where
@@ -121,7 +121,7 @@ module _ (b a : List ℕ) where
     unfolding zeroed cleared
     zeroed-is = ap (λ (k : ℕ). sets a 0 (replicate k 0)) (sym (words read))
 
-    laid-is : orderLaid b (zeroed a n l p) n l p ≡ orderLaid b (cleared b a) (N b) (L b) (P b)
+    pub laid-is : orderLaid b (zeroed a n l p) n l p ≡ orderLaid b (cleared b a) (N b) (L b) (P b)
     laid-is =
         ap (λ (z : List ℕ). orderLaid b z n l p) zeroed-is ∙ ap (λ (t : Sizes). orderLaid b (cleared b a) (t .0) (t .1) (t .2)) sizes
 

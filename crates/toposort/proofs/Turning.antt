@@ -12,11 +12,12 @@ use lib.Dec.{eqb}
 use Rattle.lists.specs.Lists.{one, times}
 use Rattle.lists.proofs.Sections.{getD-part, getD-sets-out, sets-part}
 use Rattle.lists.proofs.Places.{place-known}
-use Rattle.paper.specs.Map.{N, L, firstPort, linkTo, outLinks}
+use Rattle.paper.specs.Map.{N, L, P, firstPort, linkTo, outLinks}
 use Rattle.paper.specs.Order.{Queue, follow, queueAfter}
 use Rattle.order_theory.specs.Sound.{Sound}
 use Rattle.order_theory.specs.Queued.{Queued, frontAt, nextLink, midTurn}
 use Rattle.order_theory.proofs.Links.{entry-known}
+use Rattle.order_theory.proofs.Ports.{ports-below}
 use Rattle.order_theory.proofs.Queue.{room}
 use Rattle.order_theory.proofs.Turns.{mid-start, mid-next, mid-end}
 use Rattle.order_theory.proofs.Queued.{queued, queued-mid, mid-new}
@@ -24,7 +25,7 @@ use Rattle.counting_sort.specs.Sorted.{below}
 use Rattle.stepmap.specs.Formed.{HasLink}
 use Rattle.toposort.specs.Queue.{Counters, Following, followed}
 use Rattle.toposort.specs.Standing.{Indexed, Standing, Spanned, openInputs, laid}
-use Rattle.toposort.proofs.Indexing.{keys, is-sound, ports-below, first-is, start-is, low, high, low-high, high-fits, out-count, out-is}
+use Rattle.toposort.proofs.Indexing.{keys, is-sound, first-is, start-is, low, high, low-high, high-fits, out-count, out-is}
 use Rattle.toposort.proofs.Laying.{length-laid, following, follow-laid, follow-count}
 
 pub counters-ready : {b a : List ℕ} {n order firsts starts sorted counts : ℕ} → Indexed b a n order firsts starts sorted counts → Counters a order counts n
@@ -99,17 +100,20 @@ module _ {b a : List ℕ} {n order firsts starts sorted counts t joined : ℕ} (
     front-known : v < n
     front-known = omega (arith, front, known)
 
+    port-low : (u : ℕ) → u ≤ n → firstPort b u ≤ P b
+    port-low u h = ports-below b u (omega (arith, st .index .read .nodes))
+
     -- what stands at `starts` for the first port of a node
     start-of : (u : ℕ) → u ≤ n → getD a (starts + getD a (firsts + u) 0) 0 ≡ below (keys b) (firstPort b u)
     start-of u h =
-        ap (λ (q : ℕ). getD a (starts + q) 0) (first-is (st .index) u h) ∙ start-is (st .index) (firstPort b u) (ports-below (st .index) u h)
+        ap (λ (q : ℕ). getD a (starts + q) 0) (first-is (st .index) u h) ∙ start-is (st .index) (firstPort b u) (port-low u h)
 
     span : (u : ℕ) → u ≤ n → Spanned a firsts starts u
     span u h =
         record {
           first-inside = omega (arith, st .index .after-firsts, st .index .after-starts, st .index .after-sorted, st .index .room);
           start-inside =
-              omega (arith, first-is (st .index) u h, ports-below (st .index) u h, st .index .after-starts, st .index .after-sorted, st .index .room);
+              omega (arith, first-is (st .index) u h, port-low u h, st .index .after-starts, st .index .after-sorted, st .index .room);
         }
 
     pub spanned : Spanned a firsts starts v

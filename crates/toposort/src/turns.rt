@@ -10,7 +10,7 @@ use stepmap::access::link_to;
 use words::field::wide;
 
 // Where the links of node v start among the links by output port; those of the node before it end there.
-fn links_start(area: &[u16], firsts: usize, starts: usize, v: usize) -> usize
+pub fn links_start(area: &[u16], firsts: usize, starts: usize, v: usize) -> usize
     requires { ⌜ Spanned (now area) firsts starts v ⌝ }
     ensures { λ r. ⌜ r ≡ getD (now (area .entry)) (starts + getD (now (area .entry)) (firsts + v) 0) 0 ⌝ }
 {

@@ -1,9 +1,10 @@
 // Sections of one lent slice of words: what is not named stands as it stood.
 ghost use mathlib.Core.Path.{_≡_};
-ghost use Prim.Native.Nat.{_+_, _≤_};
-ghost use lib.ListN.{length, replicate};
+ghost use Prim.Native.Nat.{_+_, _≤_, _<_};
+ghost use lib.ListN.{length, replicate, getD};
 ghost use lib.Seq.{sets};
 ghost use Rattle.lists.proofs.Sections.{Disjoint, part};
+use crate::field::wide;
 
 // Puts v into each of the n words from `at` on.
 pub fn fill(area: &mut [u16], at: usize, n: usize, v: u16)
@@ -27,4 +28,12 @@ pub fn copy(area: &mut [u16], src: usize, dst: usize, n: usize)
         area[dst + copied] = area[src + copied];
         copied += 1;
     }
+}
+
+// Word i of the section at `at`, as an index.
+pub fn word_at(area: &[u16], at: usize, i: usize) -> usize
+    requires { ⌜ at + i < length (now area) ⌝ }
+    ensures { λ r. ⌜ r ≡ getD (now (area .entry)) (at + i) 0 ⌝ }
+{
+    wide(area[at + i])
 }
