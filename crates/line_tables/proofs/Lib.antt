@@ -1,0 +1,13 @@
+pub mod Ends
+pub mod Stacks
+pub mod Links
+pub mod Keeping
+pub mod Rows
+pub mod Holding
+pub mod Leaves
+pub mod Taking
+pub mod Placing
+pub mod Reading
+pub mod Widening
+pub mod Spreading
+pub mod Finishing
