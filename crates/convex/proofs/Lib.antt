@@ -1,0 +1,4 @@
+pub mod Answers
+pub mod Rulings
+pub mod FromOrder
+pub mod Preparing

@@ -1,0 +1,80 @@
+-- `convex::prepare::refusal` meets its contract: each refusal keeps its number and place.
+-- Assumes nothing.
+use mathlib.Core.Path.{_≡_, sym, ap}
+use Rattle.toposort.specs.Laid.{orderedSaid}
+use Rattle.toposort.specs.declared.ordering.Ordered.{Ordered}
+use Rattle.convex.specs.Said.{ruling}
+use borrow.Author.Needs.{needs}
+use Rattle.convex.proofs.prepare.refusal.Statement.{statement}
+use Rattle.convex.proofs.prepare.refusal.Tie as tie
+
+same : {o p : Ordered} → o ≡ p → ruling (orderedSaid p) ≡ ruling (orderedSaid o)
+same e = ap (λ (o : Ordered). ruling (orderedSaid o)) (sym e)
+
+enum-told : tie.Need-enum-told
+enum-told c = search needs
+
+enum-told-2 : tie.Need-enum-told-2
+enum-told-2 c = search needs
+
+enum-told-3 : tie.Need-enum-told-3
+enum-told-3 c = search needs
+
+enum-known-ordered : tie.Need-enum-known-ordered
+enum-known-ordered c = search needs
+
+enum-known-ordered-2 : tie.Need-enum-known-ordered-2
+enum-known-ordered-2 c = search needs
+
+enum-known-ordered-3 : tie.Need-enum-known-ordered-3
+enum-known-ordered-3 c = search needs
+
+enum-told-4 : tie.Need-enum-told-4
+enum-told-4 c = search needs
+
+returns : tie.Need-returns
+unfolding ruling
+returns c = same (c .enum-told .given .1)
+
+returns-2 : tie.Need-returns-2
+unfolding ruling
+returns-2 c = same (c .enum-told2 .given .1)
+
+returns-3 : tie.Need-returns-3
+unfolding ruling
+returns-3 c = same (c .enum-told3 .given .1)
+
+returns-4 : tie.Need-returns-4
+unfolding ruling
+returns-4 c = same (c .before .ordered .given .1)
+
+returns-5 : tie.Need-returns-5
+unfolding ruling
+returns-5 c = same (c .before .ordered2 .given .1)
+
+returns-6 : tie.Need-returns-6
+unfolding ruling
+returns-6 c = same (c .before .ordered3 .given .1)
+
+returns-7 : tie.Need-returns-7
+unfolding ruling
+returns-7 c = same (c .enum-told4 .given .1)
+
+pub refusal-spec : {M : Type 1} → statement M
+refusal-spec =
+    tie.close
+    (tie.spec
+    enum-told
+    enum-told-2
+    enum-told-3
+    enum-known-ordered
+    enum-known-ordered-2
+    enum-known-ordered-3
+    enum-told-4
+    returns
+    returns-2
+    returns-3
+    returns-4
+    returns-5
+    returns-6
+    returns-7)

@@ -1,0 +1,22 @@
+-- What the answers of the public calls say, in 01's numbers and values.
+-- Rests on paper's Refusals.
+use Prim.Native.Nat.{ℕ}
+use Rattle.paper.specs.Refusals.{Ruling, passed, refusal, Answer, refused, answered}
+use Rattle.convex.specs.declared.prepare.Prepared.{Prepared}
+use Rattle.convex.specs.declared.prepare.Prepared.the-variants.{Malformed, TooLarge, NoRoom, Missing, Second, Cycle, Lines}
+
+-- 01's number and values for each case
+abbrev pub preparedSaid : Prepared → Answer ℕ
+preparedSaid Malformed = refused 1 0
+preparedSaid TooLarge = refused 2 0
+preparedSaid NoRoom = refused 3 0
+preparedSaid (Missing k) = refused 4 k
+preparedSaid (Second k) = refused 5 k
+preparedSaid (Cycle v) = refused 6 v
+preparedSaid (Lines k) = answered k
+
+-- the refusal that an answer is, if it is one
+module _ {A : Type 0} where
+  unfoldable pub ruling : Answer A → Ruling
+  ruling (refused n v) = refusal n v
+  ruling (answered x) = passed
