@@ -16,9 +16,36 @@ pub fn map(random: &mut Random, steps: usize) -> StepMap {
     let mut line_up = random.permutation(count);
     line_up.retain(|_| !random.one_in(12)); // the others stay without links
 
+    let count = link_count(random, line_up.len());
+    let mut links = links_along(random, &line_up, &mut nodes, count);
+    mix_ports(random, &mut nodes, &mut links);
+    random.shuffle(&mut links);
+    StepMap::new(nodes, links)
+}
+
+/// A map of the largest size: 512 nodes, 2048 links, 4096 ports. Like those of [`map`] otherwise.
+pub fn largest(random: &mut Random) -> StepMap {
+    let mut nodes = vec![Node { inputs: 0, outputs: 0 }; 512];
+    let line_up = random.permutation(512);
+    let mut links = links_along(random, &line_up, &mut nodes, 2048);
+    let mut ports: usize = nodes.iter().map(|node| node.inputs + node.outputs).sum();
+    while ports < 4096 {
+        let node = &mut nodes[random.below(512)];
+        *(if random.one_in(2) { &mut node.inputs } else { &mut node.outputs }) += 1;
+        ports += 1;
+    }
+    for (number, &node) in nodes.iter().enumerate() {
+        permute_ports(random, number, node, &mut links);
+    }
+    random.shuffle(&mut links);
+    StepMap::new(nodes, links)
+}
+
+/// So many links forward in the line-up, each with an input of its own, and often with an output of its own.
+fn links_along(random: &mut Random, line_up: &[usize], nodes: &mut [Node], count: usize) -> Vec<Link> {
     let mut links: Vec<Link> = Vec::new();
-    for _ in 0..link_count(random, line_up.len()) {
-        let (from, to) = link_nodes(random, &line_up, &links);
+    for _ in 0..count {
+        let (from, to) = link_nodes(random, line_up, &links);
         let output = match nodes[from].outputs {
             0 => 0,
             some if random.one_in(3) => random.below(some), // one more link on an output
@@ -29,10 +56,7 @@ pub fn map(random: &mut Random, steps: usize) -> StepMap {
         nodes[to].inputs += 1;
         links.push(Link { from, output, to, input });
     }
-
-    mix_ports(random, &mut nodes, &mut links);
-    random.shuffle(&mut links);
-    StepMap::new(nodes, links)
+    links
 }
 
 /// How many links among so many nodes: few in every other map, since among many links each list that is not convex
@@ -64,15 +88,20 @@ fn mix_ports(random: &mut Random, nodes: &mut [Node], links: &mut [Link]) {
     for (number, node) in nodes.iter_mut().enumerate() {
         node.inputs += usize::from(random.one_in(3));
         node.outputs += usize::from(random.one_in(3));
-        let new_inputs = random.permutation(node.inputs);
-        let new_outputs = random.permutation(node.outputs);
-        for link in links.iter_mut() {
-            if link.to == number {
-                link.input = new_inputs[link.input];
-            }
-            if link.from == number {
-                link.output = new_outputs[link.output];
-            }
+        permute_ports(random, number, *node, links);
+    }
+}
+
+/// Gives one node's ports a random order.
+fn permute_ports(random: &mut Random, number: usize, node: Node, links: &mut [Link]) {
+    let new_inputs = random.permutation(node.inputs);
+    let new_outputs = random.permutation(node.outputs);
+    for link in links.iter_mut() {
+        if link.to == number {
+            link.input = new_inputs[link.input];
+        }
+        if link.from == number {
+            link.output = new_outputs[link.output];
         }
     }
 }

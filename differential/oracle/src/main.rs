@@ -1,15 +1,19 @@
 //! The recorder: random maps, questions about them, and the given Rust's answers on standard output.
 //!
 //! `record --text|--antt [--seed S] [--maps M] [--steps N] [--lists L] [--ports P]`
+//! `record --prepare FOLDER`
 //!
-//! The grammar of the text stands at the head of `text.rs`. Figures go to standard error.
+//! The grammar of the text stands at the head of `text.rs`. Figures go to standard error. With `--prepare` it writes the stored
+//! cases of preparing, and what is to be written of them, to the folder of the program `prepare_run`.
 
 use oracle::asking::{record, Amount};
 use oracle::drawing;
 use oracle::figures::Figures;
+use oracle::prepare_cases::Cases;
 use oracle::random::Random;
 use oracle::recording::Recording;
 use oracle::{antt, text};
+use std::path::Path;
 use std::process::ExitCode;
 
 const USAGE: &str = "record --text|--antt [--seed S] [--maps M] [--steps N] [--lists L] [--ports P]
@@ -17,7 +21,8 @@ const USAGE: &str = "record --text|--antt [--seed S] [--maps M] [--steps N] [--l
   --maps M    how many maps (20)
   --steps N   nodes in a map, at most (7)
   --lists L   lists of nodes a map, and as many with ports (4; for --antt 2)
-  --ports P   ports a map whose lines are asked, at most (all; for --antt 4)";
+  --ports P   ports a map whose lines are asked, at most (all; for --antt 4)
+record --prepare FOLDER";
 
 /// Limits of document 01 that a random map of so many steps surely keeps.
 const MOST_STEPS: usize = 100;
@@ -40,11 +45,14 @@ struct Wishes {
 
 fn main() -> ExitCode {
     let words: Vec<String> = std::env::args().skip(1).collect();
-    match wishes(&words) {
-        Ok(wishes) => {
-            run(&wishes);
-            ExitCode::SUCCESS
+    let done = match words.as_slice() {
+        [mode, folder] if mode == "--prepare" => {
+            Cases::all().write(Path::new(folder)).map_err(|problem| format!("{folder}: {problem}"))
         }
+        _ => wishes(&words).map(|wishes| run(&wishes)),
+    };
+    match done {
+        Ok(()) => ExitCode::SUCCESS,
         Err(problem) => {
             eprintln!("record: {problem}\nusage: {USAGE}");
             ExitCode::FAILURE
@@ -57,7 +65,7 @@ fn wishes(words: &[String]) -> Result<Wishes, String> {
     let format = match words.first().map(String::as_str) {
         Some("--text") => Format::Text,
         Some("--antt") => Format::Antt,
-        _ => return Err("the first word is --text or --antt".to_string()),
+        _ => return Err("the first word is --text, --antt or --prepare".to_string()),
     };
     let (lists, ports) = match format {
         Format::Text => (4, usize::MAX),

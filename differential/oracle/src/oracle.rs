@@ -48,10 +48,7 @@ impl<'m> Oracle<'m> {
 
     /// The order, from all nodes without linked inputs.
     pub fn order(&self) -> Vec<usize> {
-        let free = |&node: &NodeIndex| self.map.input_neighbours(node).count() == 0;
-        let sources = self.map.nodes_iter().filter(free);
-        let sorted: TopoSort<_> = toposort(self.map, sources, Direction::Outgoing);
-        sorted.map(|node| node.index()).collect()
+        order(self.map)
     }
 
     pub fn position(&self, node: usize) -> usize {
@@ -170,6 +167,13 @@ impl<'m> Oracle<'m> {
         let count = self.map.walked_from() + usize::from(!yes);
         Walked { yes, count }
     }
+}
+
+/// The order of a map's nodes, from all nodes without linked inputs; those behind or on a cycle are not in it.
+pub fn order(map: &StepMap) -> Vec<usize> {
+    let free = |&node: &NodeIndex| map.input_neighbours(node).count() == 0;
+    let sorted: TopoSort<_> = toposort(map, map.nodes_iter().filter(free), Direction::Outgoing);
+    sorted.map(|node| node.index()).collect()
 }
 
 /// Records as document 01 writes them: line, lowest, highest.

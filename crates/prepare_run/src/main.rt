@@ -1,0 +1,4 @@
+// Runs the stored cases of preparing.
+fn main() {
+    prepare_cases::run();
+}
