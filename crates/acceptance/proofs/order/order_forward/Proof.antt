@@ -1,0 +1,65 @@
+-- `acceptance::order::order_forward` meets its contract: the order is lent as a part of the area, and the kept places are places in it.
+-- Rests on Ordering.
+use native.Mathlib.Omega.{arith}
+use borrow.Author.Needs.{needs}
+use Rattle.acceptance.proofs.Ordering.{linking, not-once, ordered}
+use Rattle.acceptance.proofs.order.order_forward.Statement.{statement}
+use Rattle.acceptance.proofs.order.order_forward.Tie as tie
+
+place-room-requires : tie.Need-place-room-requires
+place-room-requires c κs = search needs
+
+add-end : tie.Need-add-end
+add-end c = search needs
+
+sub-each-once : tie.Need-sub-each-once
+sub-each-once c = search needs
+
+part-each-once-start : tie.Need-part-each-once-start
+part-each-once-start c = search needs
+
+part-each-once-end : tie.Need-part-each-once-end
+part-each-once-end c = search needs
+
+slice-aggregate-each-once : tie.Need-slice-aggregate-each-once
+slice-aggregate-each-once c = search needs
+
+each-once-requires : tie.Need-each-once-requires
+each-once-requires c κs = search needs
+
+returns : tie.Need-returns
+returns c =
+    let start = c .before .before .before .before .before .before .before .before in
+    not-once (start .pre) (c .before .before .each-once .ensures .0) (c .if1 .taken)
+
+slice-aggregate-links-forward : tie.Need-slice-aggregate-links-forward
+slice-aggregate-links-forward c = search needs
+
+links-forward-requires : tie.Need-links-forward-requires
+links-forward-requires c κs =
+    let at-each-once = c .before .before .before in
+    let at-place-room = at-each-once .before .before .before in
+    let start = at-place-room .before .before .before in
+    linking (start .pre) (omega (arith, at-each-once .each-once .kept .1 .0, at-place-room .place-room .ensures))
+
+returns-2 : tie.Need-returns-2
+returns-2 c =
+    let at-each-once = c .before .before .before .before in
+    let start = at-each-once .before .before .before .before .before .before in
+    ordered (start .pre) (at-each-once .each-once .ensures .0) (c .before .before .if1 .left) (at-each-once .each-once .ensures .1) (c .links-forward .ensures)
+
+pub order-forward-spec : {M : Type 1} → statement M
+order-forward-spec =
+    tie.close
+    (tie.spec
+    place-room-requires
+    add-end
+    sub-each-once
+    part-each-once-start
+    part-each-once-end
+    slice-aggregate-each-once
+    each-once-requires
+    returns
+    slice-aggregate-links-forward
+    links-forward-requires
+    returns-2)

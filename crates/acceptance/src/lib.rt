@@ -1,0 +1,38 @@
+// The acceptance test of the tables that stand in a lent area: refusal 7.
+pub mod lines;
+pub mod order;
+pub mod tables;
+
+ghost use mathlib.Core.Path.{_≡_};
+ghost use Rattle.paper.specs.Accepted.{accepted as acceptedTables};
+ghost use Rattle.acceptance.specs.Testable.{Testable};
+use agreement::linked::links_agree;
+use agreement::listed::lists_agree;
+use lines::lines_rise;
+use order::order_forward;
+use tables::tables_known;
+use words::field::wide;
+
+// Whether the tables in the area are accepted for a map of n nodes and l links; any words may stand there. It reads what is in use alone.
+pub fn accepted(b: &[u8], n: usize, l: usize, area: &[u16]) -> bool
+    requires { ⌜ Testable (now b) (now area) n l ⌝ }
+    ensures { λ r. ⌜ r ≡ acceptedTables (now (b .entry)) (now (area .entry)) ⌝ }
+{
+    let k = wide(area[0]);
+    if k > l + n {
+        return false;
+    }
+    if !tables_known(area, n, l, k) {
+        return false;
+    }
+    if !order_forward(b, n, l, area) {
+        return false;
+    }
+    if !lines_rise(area, n, l, k) {
+        return false;
+    }
+    if !lists_agree(area, n, l, k) {
+        return false;
+    }
+    links_agree(b, area, n, l, k)
+}

@@ -1,0 +1,46 @@
+// The positions along the lines.
+use words::field::wide;
+ghost use mathlib.Core.List.{map};
+ghost use lib.ListN.{length, getD};
+ghost use Rattle.lists.specs.Lists.{Rising};
+ghost use Rattle.lists.proofs.Tests.{Says};
+ghost use Rattle.groups.specs.Groups.{Known};
+ghost use Rattle.agreement.specs.Tables.{Rise, Tables};
+
+// Whether the positions strictly rise along a line's nodes.
+fn rises_along(line: &[u16], positions: &[u16]) -> bool
+    requires { ⌜ Known (length (now positions)) (now line) ⌝ }
+    ensures { λ r. ⌜ Says r (Rising (map (λ v. getD (now (positions .entry)) v 0) (now (line .entry)))) ⌝ }
+{
+    let mut i = 1;
+    while i < line.len() {
+        let u = wide(line[i - 1]);
+        let v = wide(line[i]);
+        if positions[u] >= positions[v] {
+            return false;
+        }
+        i += 1;
+    }
+    true
+}
+
+// Whether the positions strictly rise along each of the k lines.
+pub fn lines_rise(area: &[u16], n: usize, l: usize, k: usize) -> bool
+    requires { ⌜ Tables (now area) n l k ⌝ }
+    ensures { λ r. ⌜ Says r (Rise (now (area .entry)) n l k) ⌝ }
+{
+    let positions = 1 + n;
+    let ends = 1 + 2 * n;
+    let starts = 2 + 4 * n + 2 * l;
+    let nodes = 3 + 5 * n + 3 * l;
+    let mut x = 0;
+    while x < k {
+        let from = nodes + wide(area[starts + x]);
+        let to = nodes + wide(area[starts + (x + 1)]);
+        if !rises_along(&area[from..to], &area[positions..ends]) {
+            return false;
+        }
+        x += 1;
+    }
+    true
+}

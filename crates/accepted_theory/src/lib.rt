@@ -1,0 +1,1 @@
+// Theorems on accepted tables, over the definitions of `paper`. No code.

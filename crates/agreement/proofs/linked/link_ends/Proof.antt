@@ -1,0 +1,105 @@
+-- `agreement::linked::link_ends` meets its contract: the ends of the links passed stand at the fronts.
+-- Rests on Laying.
+use Prim.Native.Nat.{ℕ, _-_, _≤_}
+use native.Mathlib.Omega.{arith}
+use borrow.Author.Needs.{needs}
+use mathlib.Core.Path.{_≡_, _∙_}
+use lib.Seq.{sets}
+use lib.ListN.{length, length-set}
+use Rattle.paper.specs.Map.{linkFrom, linkTo}
+use Rattle.lists.proofs.Upto.{at-the-end}
+use Rattle.agreement.specs.Lists.{sources, targets}
+use Rattle.agreement.proofs.Laying.{table-next}
+use Rattle.agreement.proofs.linked.link_ends.Statement.{statement}
+use Rattle.agreement.proofs.linked.link_ends.Tie as tie
+
+abbrev Inv-loop : tie.InvT-loop
+Inv-loop b n l froms₀ tos₀ k₀ froms tos k =
+    (k ≤ l) × (length froms ≡ length froms₀) × (length tos ≡ length tos₀)
+    × (froms ≡ sets froms₀ 0 (sources b k)) × (tos ≡ sets tos₀ 0 (targets b k))
+
+abbrev μ-loop : tie.MeasureT-loop
+μ-loop b n l froms₀ tos₀ k₀ froms tos k = l - k
+
+loop-holds : tie.Need-loop-holds Inv-loop μ-loop
+loop-holds c = search needs
+
+link-from-requires : tie.Need-link-from-requires Inv-loop μ-loop
+link-from-requires c κs =
+    let start = c .before .before .before .before .before in
+    start .pre .0 .link (c .before .loop .k) (c .loop-test .taken)
+
+cast-froms : tie.Need-cast-froms Inv-loop μ-loop
+cast-froms c = omega (arith, c .link-from .ensures, c .before .before .before .before .before .before .pre .0 .from (c .before .before .loop .k) (c .before .loop-test .taken), c .before .before .before .before .before .before .pre .0 .few-nodes)
+
+mul-froms : tie.Need-mul-froms Inv-loop μ-loop
+mul-froms c = search needs
+
+slice-write-froms : tie.Need-slice-write-froms Inv-loop μ-loop
+slice-write-froms c = search needs
+
+link-to-requires : tie.Need-link-to-requires Inv-loop μ-loop
+link-to-requires c κs =
+    let start = c .before .before .before .before .before .before in
+    start .pre .0 .link (c .before .before .loop .k) (c .before .loop-test .taken)
+
+cast-tos : tie.Need-cast-tos Inv-loop μ-loop
+cast-tos c = omega (arith, c .link-to .ensures, c .before .before .before .before .before .before .before .pre .0 .to (c .before .before .before .loop .k) (c .before .before .loop-test .taken), c .before .before .before .before .before .before .before .pre .0 .few-nodes)
+
+mul-tos : tie.Need-mul-tos Inv-loop μ-loop
+mul-tos c = search needs
+
+slice-write-tos : tie.Need-slice-write-tos Inv-loop μ-loop
+slice-write-tos c = search needs
+
+add-k : tie.Need-add-k Inv-loop μ-loop
+add-k c = search needs
+
+loop-less : tie.Need-loop-less Inv-loop μ-loop
+loop-less c = search needs
+
+loop-again : tie.Need-loop-again Inv-loop μ-loop
+loop-again c =
+    let head = c .before .before .before in
+    let start = head .before .before .before .before in (
+      omega (arith, c .before .before .loop-test .taken),
+      length-set (head .loop .froms) (head .loop .k) _ ∙ head .loop .inv .1,
+      length-set (head .loop .tos) (head .loop .k) _ ∙ head .loop .inv .2,
+      table-next (linkFrom (start .args .b .now)) (start .args .froms .now) (head .loop .k) (c .before .link-from .ensures) (head .loop .inv .3),
+      table-next (linkTo (start .args .b .now)) (start .args .tos .now) (head .loop .k) (c .link-to .ensures) (head .loop .inv .4),
+    )
+
+same-length : tie.Need-same-length Inv-loop μ-loop
+same-length c = search needs
+
+same-length-2 : tie.Need-same-length-2 Inv-loop μ-loop
+same-length-2 c = search needs
+
+returns : tie.Need-returns Inv-loop μ-loop
+returns c =
+    let start = c .before .before .before .before .before in (
+      c .before .loop .inv .3 ∙ at-the-end (λ (m : ℕ). sets (start .args .froms .now) 0 (sources (start .args .b .now) m)) (c .before .loop .inv .0) (c .loop-test .left),
+      c .before .loop .inv .4 ∙ at-the-end (λ (m : ℕ). sets (start .args .tos .now) 0 (targets (start .args .b .now) m)) (c .before .loop .inv .0) (c .loop-test .left),
+    )
+
+pub link-ends-spec : {M : Type 1} → statement M
+link-ends-spec =
+    tie.close
+    (tie.spec
+    Inv-loop
+    μ-loop
+    loop-holds
+    link-from-requires
+    cast-froms
+    mul-froms
+    slice-write-froms
+    link-to-requires
+    cast-tos
+    mul-tos
+    slice-write-tos
+    add-k
+    loop-less
+    loop-again
+    same-length
+    same-length-2
+    returns)

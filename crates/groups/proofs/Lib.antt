@@ -1,0 +1,4 @@
+pub mod Bags
+pub mod Pairs
+pub mod Picking
+pub mod Matching
