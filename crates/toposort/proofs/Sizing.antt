@@ -29,11 +29,11 @@ pub words : {b : List ℕ} {n l p : ℕ} → ReadWell b n l p → W b ≡ 7 + 10
 words {b} read = omega (arith, W-sum b, read .nodes, read .links, read .ports)
 
 module _ {b : List ℕ} {n l p : ℕ} (read : ReadWell b n l p) (a : List ℕ) where
-  short : length a < 7 + 10 * n + 9 * l + 2 * p → refusal 3 0 ≡ rule3 b a
+  pub short : length a < 7 + 10 * n + 9 * l + 2 * p → refusal 3 0 ≡ rule3 b a
   unfolding rule3 refuse
   short h = ap (λ t. refuse 3 (placed t 0)) (sym (lt-ltb (length a) (W b) (omega (arith, words read))))
 
-  roomy : 7 + 10 * n + 9 * l + 2 * p ≤ length a → passed ≡ rule3 b a
+  pub roomy : 7 + 10 * n + 9 * l + 2 * p ≤ length a → passed ≡ rule3 b a
   unfolding rule3 refuse
   roomy h = ap (λ t. refuse 3 (placed t 0)) (sym (le-ltb (length a) (W b) (omega (arith, words read))))
 
@@ -93,7 +93,7 @@ unfolding answer
 was-passed x passed e = refl
 was-passed x (refusal j v) e = cc
 
-was-refused : {i : ℕ} (x : Sizes) (u : Ruling) → refused i 0 ≡ answer u x → refusal i 0 ≡ u
+pub was-refused : {i : ℕ} (x : Sizes) (u : Ruling) → refused i 0 ≡ answer u x → refusal i 0 ≡ u
 unfolding answer
 was-refused x passed e = cc
 was-refused x (refusal j v) e = cc
@@ -114,7 +114,7 @@ module _ (b a : List ℕ) where
 
   -- .. else what is left of the map with its sizes
   module _ {n l p : ℕ} (read : ReadWell b n l p) where
-    sizes : _≡_ {A = Sizes} (n, l, p) (N b, L b, P b)
+    pub sizes : _≡_ {A = Sizes} (n, l, p) (N b, L b, P b)
     sizes = ap (λ (x : ℕ). (x, l, p)) (sym (read .nodes)) ∙ ap (λ (x : ℕ). (N b, x, p)) (sym (read .links)) ∙ ap (λ (x : ℕ). (N b, L b, x)) (sym (read .ports))
 
     zeroed-is : zeroed a n l p ≡ cleared b a

@@ -1,0 +1,138 @@
+-- What is left of a map that passes 1 and 2, and of any map, put together from the rules' answers.
+-- Rests on toposort's Refusing and Sizing, and on paper's Area.
+use Prim.Native.Nat.{ℕ, _+_, _*_, _≤_, _<_}
+use native.Mathlib.Omega.{arith}
+use mathlib.Core.Path.{_≡_, refl, sym, ap, ap₂, _∙_}
+use mathlib.Core.Bool.{Bool, true, false, not}
+use mathlib.Core.List.{List, [], _∷_}
+use lib.ListN.{length, getD, replicate}
+use lib.Seq.{sets}
+use Rattle.lists.specs.Found.{placed}
+use Rattle.paper.specs.Map.{N, L, P}
+use Rattle.paper.specs.Area.{Section, size, start, scratchCleared}
+use Rattle.paper.specs.Accepted.{accepted}
+use Rattle.paper.specs.Calls.{untouched, areaAfter, opening}
+use Rattle.paper.specs.Refusals.{Ruling, passed, refusal, refuse, Answer, answer, onRefusal, refused, answered, decide, rule1, rule2, rule3, rule45, rule7}
+use Rattle.stepmap.specs.Formed.{ReadWell}
+use Rattle.stepmap.proofs.Known.{well-at}
+use Rattle.acceptance.specs.Testable.{Testable}
+use Rattle.toposort.proofs.Refusing.{refused-said, passed-said, passed-kept, refused-kept, next, here, alone, after, before}
+use Rattle.toposort.proofs.Sizing.{short, roomy, was-refused, sizes}
+use Rattle.opening.specs.declared.Opened.{Opened}
+use Rattle.opening.specs.declared.Opened.the-variants.{Malformed, TooLarge, NoRoom, Missing, Second, NotAccepted, Ready}
+use Rattle.opening.specs.Opened.{Roomy, SizedLeft, OpenLeft, openedSaid, scratchZeroed}
+
+abbrev Sizes : Type 0
+Sizes = ℕ × ℕ × ℕ
+
+-- ---- 4, 5 and 7
+
+-- 4 or 5: a bad link
+pub bad-link : (b a : List ℕ) {i k : ℕ} (s : Sizes) → refusal i k ≡ rule45 b → refused i k ≡ answer (decide (rule45 b ∷ rule7 b a ∷ [])) s
+bad-link b a s e = refused-said (here e (rule7 b a ∷ [])) s
+
+-- sound links let the tables be tested
+pub testable : {b a : List ℕ} {n l p : ℕ} → Roomy b a n l p → passed ≡ rule45 b → Testable b a n l
+testable ready e = record { read = well-at (ready .read); links = sym e; room = omega (arith, ready .room) }
+
+module _ (b a : List ℕ) (s : Sizes) (sound : passed ≡ rule45 b) {r : Bool} (is : r ≡ accepted b a) where
+  ruled : {t : Bool} → not r ≡ t → refuse 7 (placed t 0) ≡ decide (rule45 b ∷ rule7 b a ∷ [])
+  unfolding rule7
+  ruled e = ap (λ (t : Bool). refuse 7 (placed t 0)) (sym e ∙ ap not is) ∙ alone (rule7 b a) ∙ next sound (rule7 b a ∷ [])
+
+  pub not-accepted : not r ≡ true → refused 7 0 ≡ answer (decide (rule45 b ∷ rule7 b a ∷ [])) s
+  unfolding refuse
+  not-accepted e = refused-said (ruled e) s
+
+  pub is-accepted : not r ≡ false → answered s ≡ answer (decide (rule45 b ∷ rule7 b a ∷ [])) s
+  unfolding refuse
+  is-accepted e = passed-said (ruled e) s
+
+-- ---- 3: the room for W words
+
+module _ {b : List ℕ} {n l p : ℕ} (read : ReadWell b n l p) (a : List ℕ) where
+  pub no-room-said : length a < 7 + 10 * n + 9 * l + 2 * p
+      → _≡_ {A = Answer Sizes} (refused 3 0) (answer (decide (rule3 b a ∷ rule45 b ∷ rule7 b a ∷ [])) (n, l, p))
+  no-room-said h = refused-said (here (short read a h) (rule45 b ∷ rule7 b a ∷ [])) (n, l, p)
+
+  pub room-said : {x : Answer Sizes} → 7 + 10 * n + 9 * l + 2 * p ≤ length a → x ≡ answer (decide (rule45 b ∷ rule7 b a ∷ [])) (n, l, p)
+      → x ≡ answer (decide (rule3 b a ∷ rule45 b ∷ rule7 b a ∷ [])) (n, l, p)
+  room-said h e = e ∙ ap (λ (u : Ruling). answer u (n, l, p)) (next (roomy read a h) (rule45 b ∷ rule7 b a ∷ []))
+
+  pub no-room : {m : List ℕ} → length a < 7 + 10 * n + 9 * l + 2 * p → m ≡ a → SizedLeft b a n l p NoRoom m
+  no-room h e = record { said = no-room-said h; left = refused-kept (short read a h) (scratchZeroed a n l p) e }
+
+  pub room : {r : Opened} {m : List ℕ} → 7 + 10 * n + 9 * l + 2 * p ≤ length a → openedSaid r ≡ answer (decide (rule45 b ∷ rule7 b a ∷ [])) (n, l, p)
+      → m ≡ sets a (3 + 6 * n + 5 * l) (replicate (4 * n + 4 * l + 2 * p + 4) 0) → SizedLeft b a n l p r m
+  unfolding scratchZeroed
+  room h e f = record { said = room-said h e; left = passed-kept (roomy read a h) a f }
+
+-- ---- any map
+
+module _ (b a : List ℕ) where
+  -- 1 or 2
+  module _ {i : ℕ} (e : _≡_ {A = Answer Sizes} (refused i 0) (answer (decide (rule1 b ∷ rule2 b ∷ [])) (N b, L b, P b))) where
+    first-two : refusal i 0 ≡ decide (rule1 b ∷ rule2 b ∷ [])
+    first-two = was-refused (N b, L b, P b) (decide (rule1 b ∷ rule2 b ∷ [])) e
+
+    pub unread-said : _≡_ {A = Answer Sizes} (refused i 0) (answer (decide (opening b a)) (N b, L b, P b))
+    unfolding opening untouched
+    unread-said = refused-said (before (rule1 b ∷ rule2 b ∷ []) (rule3 b a ∷ rule45 b ∷ rule7 b a ∷ []) first-two) (N b, L b, P b)
+
+    pub unread : {r : Opened} {m : List ℕ} → openedSaid r ≡ refused i 0 → m ≡ a → OpenLeft b a r m
+    unfolding areaAfter untouched
+    unread s f =
+        record {
+          said = s ∙ unread-said;
+          left = refused-kept (before (rule1 b ∷ rule2 b ∷ []) (rule3 b a ∷ []) first-two) (scratchCleared b a) f;
+        }
+
+  -- .. else what is left of the map with its sizes
+  module _ {n l p : ℕ} (read : ReadWell b n l p) (d : passed ≡ decide (rule1 b ∷ rule2 b ∷ [])) where
+    pub sized-said : {x : Answer Sizes} → x ≡ answer (decide (rule3 b a ∷ rule45 b ∷ rule7 b a ∷ [])) (n, l, p)
+        → x ≡ answer (decide (opening b a)) (N b, L b, P b)
+    unfolding opening untouched
+    sized-said e =
+        e ∙ ap (λ (t : Sizes). answer (decide (rule3 b a ∷ rule45 b ∷ rule7 b a ∷ [])) t) (sizes b a read)
+        ∙ ap (λ (u : Ruling). answer u (N b, L b, P b)) (after (rule1 b ∷ rule2 b ∷ []) (rule3 b a ∷ rule45 b ∷ rule7 b a ∷ []) d)
+
+    starts : 3 + 6 * n + 5 * l ≡ start b Section.scratch
+    unfolding start size
+    starts = omega (arith, read .nodes, read .links)
+
+    counts : 4 * n + 4 * l + 2 * p + 4 ≡ size b Section.scratch
+    unfolding size
+    counts = omega (arith, read .nodes, read .links, read .ports)
+
+    zeroed-is : scratchZeroed a n l p ≡ scratchCleared b a
+    unfolding scratchZeroed scratchCleared
+    zeroed-is = ap₂ (λ (at k : ℕ). sets a at (replicate k 0)) starts counts
+
+    pub sized-left : {r : Opened} {m : List ℕ} → SizedLeft b a n l p r m → OpenLeft b a r m
+    unfolding areaAfter untouched
+    sized-left known =
+        record {
+          said = sized-said (known .said);
+          left =
+              known .left ∙ ap (λ (z : List ℕ). onRefusal (rule3 b a) a z) zeroed-is
+              ∙ ap (λ (u : Ruling). onRefusal u a (scratchCleared b a)) (alone (rule3 b a) ∙ after (rule1 b ∷ rule2 b ∷ []) (rule3 b a ∷ []) d);
+        }
+
+-- ---- each answer's meaning tells its cases apart
+
+meant : Answer Sizes → Opened
+meant (answered (n, l, p)) = Ready n l p
+meant (refused i v) = getD (NoRoom ∷ Malformed ∷ TooLarge ∷ NoRoom ∷ Missing v ∷ Second v ∷ NoRoom ∷ NotAccepted ∷ []) i NoRoom
+
+meant-said : (r : Opened) → meant (openedSaid r) ≡ r
+unfolding meant
+meant-said Malformed = refl
+meant-said TooLarge = refl
+meant-said NoRoom = refl
+meant-said (Missing k) = refl
+meant-said (Second k) = refl
+meant-said NotAccepted = refl
+meant-said (Ready n l p) = refl
+
+pub openedSaid-injective : (r s : Opened) → openedSaid r ≡ openedSaid s → r ≡ s
+openedSaid-injective r s e = sym (meant-said r) ∙ ap meant e ∙ meant-said s

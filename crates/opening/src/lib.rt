@@ -1,0 +1,113 @@
+// How every call but preparing opens: refusals 1, 2, 3, 4, 5 and 7 in their order, with the scratch set to 0 past 3.
+ghost use mathlib.Core.Path.{_≡_};
+ghost use mathlib.Core.List.{[], _∷_};
+ghost use Rattle.paper.specs.Map.{N, L, P};
+ghost use Rattle.paper.specs.Calls.{opening};
+ghost use Rattle.paper.specs.Refusals.{answer, decide, rule3, rule45, rule7};
+ghost use Rattle.stepmap.specs.Formed.{ReadWell};
+ghost use Rattle.opening.specs.Opened.{OpenLeft, Roomy, SizedLeft, openedSaid};
+use acceptance::accepted;
+use stepmap::links::Links;
+use stepmap::links::check_links;
+use stepmap::read::StepMap;
+use stepmap::read::read_map;
+use words::section::fill;
+
+// What opening a call comes to: refusals 1, 2, 3, 4, 5, 7, or the map's sizes.
+pub enum Opened {
+    Malformed,
+    TooLarge,
+    NoRoom,
+    Missing(usize),
+    Second(usize),
+    NotAccepted,
+    Ready {
+        nodes: usize,
+        links: usize,
+        ports: usize,
+    },
+}
+
+// Tests the links and the tables where 1, 2 and 3 have passed: refusals 4, 5 and 7.
+fn test_tables(b: &[u8], n: usize, l: usize, p: usize, area: &[u16]) -> Opened
+    requires { ⌜ Roomy (now b) (now area) n l p ⌝ }
+    ensures { λ r. ⌜ openedSaid r ≡ answer (decide (rule45 (now (b .entry)) ∷ rule7 (now (b .entry)) (now (area .entry)) ∷ [])) (n, l, p) ⌝ }
+{
+    let found = check_links(b, n, l);
+    match found {
+        Links::Missing(k) => {
+            return Opened::Missing(k);
+        }
+        Links::Second(k) => {
+            return Opened::Second(k);
+        }
+        Links::Sound => {}
+    }
+    if !accepted(b, n, l, area) {
+        return Opened::NotAccepted;
+    }
+    Opened::Ready {
+        nodes: n,
+        links: l,
+        ports: p,
+    }
+}
+
+// Opens a map that passes 1 and 2: refusal 3 leaves the area as it was, and all else leaves the scratch at 0. Testing reads no
+// scratch, so it is set to 0 after the tests, at one place for all of their answers.
+fn open_sized(b: &[u8], n: usize, l: usize, p: usize, area: &mut [u16]) -> Opened
+    requires { ⌜ ReadWell (now b) n l p ⌝ }
+    ensures { λ r. ⌜ SizedLeft (now (b .entry)) (now (area .entry)) n l p r (now (area .exit)) ⌝ }
+{
+    if area.len() < 7 + 10 * n + 9 * l + 2 * p {
+        return Opened::NoRoom;
+    }
+    let found = test_tables(b, n, l, p, area);
+    fill(area, 3 + 6 * n + 5 * l, 4 * n + 4 * l + 2 * p + 4, 0);
+    found
+}
+
+// Opens any call but preparing and the view of a port's lines, on any map and any area.
+pub fn open(map: &[u8], area: &mut [u16]) -> Opened
+    ensures { λ r. ⌜ OpenLeft (now (map .entry)) (now (area .entry)) r (now (area .exit)) ⌝ }
+{
+    let read = read_map(map);
+    match read {
+        StepMap::Malformed => Opened::Malformed,
+        StepMap::TooLarge => Opened::TooLarge,
+        StepMap::Sized {
+            nodes,
+            links,
+            ports,
+        } => open_sized(map, nodes, links, ports, area),
+    }
+}
+
+// The same of a map that passes 1 and 2, where nothing is written.
+fn open_sized_shared(b: &[u8], n: usize, l: usize, p: usize, area: &[u16]) -> Opened
+    requires { ⌜ ReadWell (now b) n l p ⌝ }
+    ensures { λ r. ⌜ openedSaid r
+        ≡ answer (decide (rule3 (now (b .entry)) (now (area .entry)) ∷ rule45 (now (b .entry)) ∷ rule7 (now (b .entry)) (now (area .entry)) ∷ [])) (n, l, p) ⌝ }
+{
+    if area.len() < 7 + 10 * n + 9 * l + 2 * p {
+        return Opened::NoRoom;
+    }
+    test_tables(b, n, l, p, area)
+}
+
+// Opens the view of a port's lines, which writes nothing.
+pub fn open_shared(map: &[u8], area: &[u16]) -> Opened
+    ensures { λ r. ⌜ openedSaid r
+        ≡ answer (decide (opening (now (map .entry)) (now (area .entry)))) (N (now (map .entry)), L (now (map .entry)), P (now (map .entry))) ⌝ }
+{
+    let read = read_map(map);
+    match read {
+        StepMap::Malformed => Opened::Malformed,
+        StepMap::TooLarge => Opened::TooLarge,
+        StepMap::Sized {
+            nodes,
+            links,
+            ports,
+        } => open_sized_shared(map, nodes, links, ports, area),
+    }
+}
