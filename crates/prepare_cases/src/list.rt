@@ -1,6 +1,8 @@
 // The list of cases: its lines, their words, and the numbers among these. Any bytes are taken.
-ghost use Prim.Native.Nat.{_≤_, _<_};
+ghost use mathlib.Core.Path.{_≡_};
+ghost use Prim.Native.Nat.{_≤_, _<_, _%_};
 ghost use lib.ListN.{length};
+ghost use Rattle.prepare_cases.specs.Number.{numberOf};
 
 // Where the line after the one at `at` starts, or the list's end.
 pub fn next_line(list: &[u8], at: usize) -> usize
@@ -45,13 +47,15 @@ pub fn next_word(line: &[u8], end: usize) -> usize
 
 // The number that a decimal digit stands for.
 fn digit(x: u8) -> usize
-    ensures { λ r. ⌜ r < 16 ⌝ }
+    ensures { λ r. ⌜ r ≡ x % 16 ⌝ }
 {
     (x % 16) as usize
 }
 
 // The number that a word of decimal digits stands for. The list has none above 65535, so the remainder cuts nothing off.
-pub fn number(word: &[u8]) -> u16 {
+pub fn number(word: &[u8]) -> u16
+    ensures { λ r. ⌜ r ≡ numberOf (now (word .entry)) ⌝ }
+{
     let mut value: usize = 0;
     let mut i = 0;
     while i < word.len() {

@@ -1,5 +1,9 @@
--- `prepare_cases::list::number` is safe and ends. The loop: the value is one of 16 bits.
--- Assumes nothing.
+-- `prepare_cases::list::number` meets its contract: after i digits the value is that of the first i.
+-- Rests on Numbers.
+use Rattle.prepare_cases.proofs.Numbers.{no-digit, digit-more, all-digits}
+use Rattle.prepare_cases.specs.Number.{valueAfter}
+use mathlib.Core.Path.{_≡_}
+use native.Mathlib.Omega.{arith}
 use borrow.Author.Needs.{needs}
 use Prim.Native.Nat.{_≤_, _<_, _-_}
 use lib.ListN.{length}
@@ -7,13 +11,13 @@ use Rattle.prepare_cases.proofs.list.number.Statement.{statement}
 use Rattle.prepare_cases.proofs.list.number.Tie as tie
 
 abbrev Inv-loop : tie.InvT-loop
-Inv-loop word value₀ i₀ value i = (i ≤ length word) × (value < 65536)
+Inv-loop word value₀ i₀ value i = (i ≤ length word) × (value < 65536) × (value ≡ valueAfter word i)
 
 abbrev μ-loop : tie.MeasureT-loop
 μ-loop word value₀ i₀ value i = length word - i
 
 loop-holds : tie.Need-loop-holds Inv-loop μ-loop
-loop-holds c = search needs
+loop-holds c = (search needs, search needs, no-digit (c .before .args .word .now))
 
 mul-value : tie.Need-mul-value Inv-loop μ-loop
 mul-value c = search needs
@@ -25,7 +29,7 @@ digit-requires : tie.Need-digit-requires Inv-loop μ-loop
 digit-requires c κs = search needs
 
 add-value : tie.Need-add-value Inv-loop μ-loop
-add-value c = search needs
+add-value c = omega (arith, c .digit .ensures, c .before .before .before .loop .inv .1)
 
 add-i : tie.Need-add-i Inv-loop μ-loop
 add-i c = search needs
@@ -34,13 +38,17 @@ loop-less : tie.Need-loop-less Inv-loop μ-loop
 loop-less c = search needs
 
 loop-again : tie.Need-loop-again Inv-loop μ-loop
-loop-again c = search needs
+loop-again c =
+    let turn = c .before .before .before .loop in
+    (search needs, omega arith, digit-more (c .before .before .before .before .before .args .word .now) (turn .i) (turn .inv .2) (c .digit .ensures))
 
 cast-result : tie.Need-cast-result Inv-loop μ-loop
 cast-result c = search needs
 
 returns : tie.Need-returns Inv-loop μ-loop
-returns c = search needs
+returns c =
+    let word = c .before .before .before .args .word .now in
+    all-digits word (c .before .loop .i) (omega (arith, c .before .loop .inv .0, c .loop-test .left)) (c .before .loop .inv .2)
 
 pub number-spec : {M : Type 1} → statement M
 number-spec =
