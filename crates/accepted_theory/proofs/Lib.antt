@@ -1,2 +1,13 @@
+pub mod Every
 pub mod Starts
+pub mod Tables
 pub mod InUse
+pub mod Intervals
+pub mod Walk
+pub mod OrderCheck
+pub mod Records
+pub mod Refusals
+pub mod Alike
+pub mod Calls
+pub mod Counts
+pub mod Within

@@ -1,1 +1,4 @@
+pub mod Every
 pub mod InUse
+pub mod SameTables
+pub mod SameOutcomes
