@@ -1,0 +1,5 @@
+pub mod Join
+pub mod Joined
+pub mod Entries
+pub mod Together
+pub mod Answers
