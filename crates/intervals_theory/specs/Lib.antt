@@ -1,0 +1,2 @@
+pub mod SmallMap
+pub mod Collected
