@@ -1,0 +1,12 @@
+pub mod Among
+pub mod Chosen
+pub mod Tables
+pub mod Within
+pub mod Listed
+pub mod Sorted
+pub mod Ruled
+pub mod Passing
+pub mod Reading
+pub mod ByRecords
+pub mod Same
+pub mod Inner

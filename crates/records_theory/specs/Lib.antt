@@ -1,0 +1,3 @@
+pub mod Ordered
+pub mod Allowed
+pub mod Same
