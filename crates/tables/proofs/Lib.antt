@@ -1,0 +1,3 @@
+pub mod Within
+pub mod Words
+pub mod Usable

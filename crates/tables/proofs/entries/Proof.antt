@@ -1,0 +1,79 @@
+-- A part of the area by its two ends is what lies between them.
+-- Rests on the contract of word_at.
+use Prim.Native.Nat.{ℕ, zero, suc, _+_, _-_}
+use native.Mathlib.Omega.{arith}
+use mathlib.Core.Path.{_≡_, refl, ap, ap₂, _∙_}
+use mathlib.Core.List.{List, [], _∷_}
+use borrow.Author.Needs.{needs}
+use lib.ListN.{take, drop}
+use lib.Seq.{slice}
+use Rattle.tables.specs.Usable.{entriesOf}
+use Rattle.tables.proofs.entries.Statement.{statement}
+use Rattle.tables.proofs.entries.Tie as tie
+use Rattle.tables.proofs.entries.Reads as reads
+use Rattle.tables.proofs.entries.Lts as lts
+use Rattle.words.proofs.section.word_at.Reads as word-at-reads
+
+between : (n f t : ℕ) (l : List ℕ) → n ≡ t - f → take n (drop f l) ≡ slice f t l
+between n zero t l e = ap (λ (k : ℕ). take k l) (whole n e)
+  where
+    whole : (n : ℕ) → n ≡ t - 0 → n ≡ t
+    whole n e = omega arith
+between n (suc f) zero l e = ap (λ (k : ℕ). take k (drop (suc f) l)) (gone n e)
+  where
+    gone : (n : ℕ) → n ≡ 0 - suc f → n ≡ 0
+    gone n e = omega arith
+between zero (suc f) (suc t) [] e = refl
+between (suc n) (suc f) (suc t) [] e = refl
+between n (suc f) (suc t) (x ∷ xs) e = between n f t xs (omega arith)
+
+word-at-requires : tie.Need-word-at-requires
+word-at-requires c κs = search needs
+
+add-from : tie.Need-add-from
+add-from c = search needs
+
+add-word-at : tie.Need-add-word-at
+add-word-at c = search needs
+
+word-at-requires-2 : tie.Need-word-at-requires-2
+word-at-requires-2 c κs = search needs
+
+add-to : tie.Need-add-to
+add-to c = search needs
+
+mul-result : tie.Need-mul-result
+mul-result c = search needs
+
+sub-result : tie.Need-sub-result
+sub-result c = search needs
+
+part-result-start : tie.Need-part-result-start
+part-result-start c = search needs
+
+part-result-end : tie.Need-part-result-end
+part-result-end c = search needs
+
+returns : tie.Need-returns
+unfolding entriesOf
+returns c =
+    let args = c .before .before .before .before .args in
+    let from = c .before .before .word-at in
+    let to = c .before .word-at2 in
+    between (args .at + to .result - (args .at + from .result)) (args .at + from .result) (args .at + to .result) (args .area .now) refl
+    ∙ ap₂ (λ (f t : ℕ). slice (args .at + f) (args .at + t) (args .area .now)) (from .ensures) (to .ensures)
+
+pub entries-spec : {M : Type 1} → statement M
+entries-spec =
+    tie.close
+    (tie.spec
+    word-at-requires
+    add-from
+    add-word-at
+    word-at-requires-2
+    add-to
+    mul-result
+    sub-result
+    part-result-start
+    part-result-end
+    returns)

@@ -1,0 +1,4 @@
+pub mod Within
+pub mod Usable
+pub mod Recorded
+pub mod Answered
