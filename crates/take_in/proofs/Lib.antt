@@ -1,0 +1,5 @@
+pub mod Search
+pub mod Taking
+pub mod Each
+pub mod Passing
+pub mod Answers
