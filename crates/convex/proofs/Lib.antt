@@ -1,4 +1,4 @@
 pub mod Answers
-pub mod Rulings
+pub mod Calling
 pub mod FromOrder
 pub mod Preparing

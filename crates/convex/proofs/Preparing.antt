@@ -1,5 +1,5 @@
 -- Preparing from the ordering's answer: a refusal is passed up with its area, and else 1 to 6 passed and the lines are laid.
--- Rests on Rulings and FromOrder.
+-- Rests on refusals' Rulings and FromOrder.
 use Prim.Native.Nat.{ℕ}
 use native.Mathlib.Omega.{arith}
 use mathlib.Core.Path.{_≡_, sym, ap, ap₂, _∙_}
@@ -21,9 +21,10 @@ use Rattle.toposort.proofs.ordering.Ordered.{the-type}
 use Rattle.toposort.proofs.Refusing.{passed-said, passed-kept}
 use Rattle.toposort.proofs.Sizing.{words, laid-is}
 use Rattle.line_tables.specs.Laying.{Laying}
-use Rattle.convex.specs.Said.{preparedSaid, ruling}
+use Rattle.refusals.specs.Said.{ruling}
+use Rattle.refusals.proofs.Rulings.{no-refusal, ruling-answer, refused-so, left-so, head-passed, both-passed, roomy}
+use Rattle.convex.specs.Said.{preparedSaid}
 use Rattle.convex.specs.declared.prepare.Prepared.{Prepared}
-use Rattle.convex.proofs.Rulings.{no-refusal, ruling-answer, refused-so, left-so, head-passed, both-passed, roomy}
 use Rattle.convex.proofs.FromOrder.{laying, prepared-over}
 
 -- an answer and the area's words, as a call leaves them

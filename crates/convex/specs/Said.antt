@@ -1,7 +1,7 @@
 -- What the answers of the public calls say, in 01's numbers and values.
 -- Rests on paper's Refusals.
 use Prim.Native.Nat.{ℕ}
-use Rattle.paper.specs.Refusals.{Ruling, passed, refusal, Answer, refused, answered}
+use Rattle.paper.specs.Refusals.{Answer, refused, answered}
 use Rattle.convex.specs.declared.prepare.Prepared.{Prepared}
 use Rattle.convex.specs.declared.prepare.Prepared.the-variants.{Malformed, TooLarge, NoRoom, Missing, Second, Cycle, Lines}
 
@@ -14,9 +14,3 @@ preparedSaid (Missing k) = refused 4 k
 preparedSaid (Second k) = refused 5 k
 preparedSaid (Cycle v) = refused 6 v
 preparedSaid (Lines k) = answered k
-
--- the refusal that an answer is, if it is one
-module _ {A : Type 0} where
-  unfoldable pub ruling : Answer A → Ruling
-  ruling (refused n v) = refusal n v
-  ruling (answered x) = passed

@@ -1,2 +1,3 @@
 // The public calls on a step map and its area, each with 01's refusals in their order. None of them requires anything.
+pub mod opened;
 pub mod prepare;

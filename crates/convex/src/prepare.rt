@@ -3,7 +3,8 @@
 ghost use mathlib.Core.Path.{_≡_};
 ghost use Rattle.paper.specs.Calls.{prepare};
 ghost use Rattle.toposort.specs.Laid.{orderedSaid};
-ghost use Rattle.convex.specs.Said.{preparedSaid, ruling};
+ghost use Rattle.refusals.specs.Said.{ruling};
+ghost use Rattle.convex.specs.Said.{preparedSaid};
 use line_tables::lay_lines;
 use toposort::ordering::Ordered;
 use toposort::ordering::order_map;

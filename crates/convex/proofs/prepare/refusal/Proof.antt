@@ -3,7 +3,7 @@
 use mathlib.Core.Path.{_≡_, sym, ap}
 use Rattle.toposort.specs.Laid.{orderedSaid}
 use Rattle.toposort.specs.declared.ordering.Ordered.{Ordered}
-use Rattle.convex.specs.Said.{ruling}
+use Rattle.refusals.specs.Said.{ruling}
 use borrow.Author.Needs.{needs}
 use Rattle.convex.proofs.prepare.refusal.Statement.{statement}
 use Rattle.convex.proofs.prepare.refusal.Tie as tie

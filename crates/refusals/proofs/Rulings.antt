@@ -12,7 +12,7 @@ use lib.ListN.{length}
 use Rattle.lists.specs.Found.{placed}
 use Rattle.paper.specs.Area.{W}
 use Rattle.paper.specs.Refusals.{Ruling, passed, refusal, refuse, Answer, answer, refused, answered, onRefusal, decide, rule3}
-use Rattle.convex.specs.Said.{ruling}
+use Rattle.refusals.specs.Said.{ruling}
 
 -- ---- an answer and its ruling
 
