@@ -1,39 +1,30 @@
--- Laws of the small map alone: what `add` does to its lines, where a line then stands, and one line or node more.
+-- Laws of the small map alone: what `add` does to its lines, where a line stands, and one line more.
 -- Rests on lists' First and Places.
 use Prim.Native.Nat.{ℕ, zero, suc, _≤_, _<_}
 use native.Mathlib.Decide.{decLt}
-use native.Mathlib.Numerals.{add-one}
 use native.Mathlib.Omega.{arith}
-use mathlib.Core.Path.{_≡_, refl, sym, ap, ap₂, _∙_}
+use mathlib.Core.Path.{_≡_, refl, sym, ap}
 use mathlib.Core.Bool.{Bool, true, false, _||_, cond}
 use mathlib.Core.List.{List, [], _∷_, _++_, append-nil}
-use lib.ListN.{length, getD, set, length-append, length-map, List·getD-append}
-use lib.Seq.{take-length, getD-append-seam}
+use lib.ListN.{length, getD, set}
+use lib.Seq.{take-length}
 use lib.Dec.{eqb}
 use borrow.Author.Tests.{eqb-true, eqb-false}
 use Rattle.lists.specs.Lists.{member, times}
-use Rattle.lists.specs.Found.{Found, absent, at, orElse, placed, first}
+use Rattle.lists.specs.Found.{absent, at}
 use Rattle.lists.proofs.Count.{one-eq, eqb-sym}
-use Rattle.lists.proofs.First.{FirstOf, first-same, first-at, first-absent}
-use Rattle.lists.proofs.Members.{member-yes, member-no}
+use Rattle.lists.proofs.First.{FirstOf, first-at, first-absent}
 use Rattle.lists.proofs.Places.{PlaceBelow, times-place, place-times}
-use Rattle.paper.specs.Area.{position, linesOf}
 use Rattle.paper.specs.Lookup.{lookup}
-use Rattle.intervals_theory.specs.SmallMap.{Held, widened, add, addLines, addNodes}
+use Rattle.intervals_theory.specs.SmallMap.{Held, widened, add, addLines}
 use Rattle.intervals_theory.specs.Collected.{linesIn, slot, fresh}
 
--- ---- one line or node more
+-- ---- one line more
 
 pub addLines-snoc : (p : ℕ) (ls : List ℕ) (l : ℕ) (hs : List Held) → addLines p (ls ++ (l ∷ [])) hs ≡ add p l (addLines p ls hs)
 unfolding addLines
 addLines-snoc p [] l hs = refl
 addLines-snoc p (k ∷ ks) l hs = addLines-snoc p ks l (add p k hs)
-
-pub addNodes-snoc : (b a vs : List ℕ) (v : ℕ) (hs : List Held)
-    → addNodes b a (vs ++ (v ∷ [])) hs ≡ addLines (position b a v) (linesOf b a v) (addNodes b a vs hs)
-unfolding addNodes
-addNodes-snoc b a [] v hs = refl
-addNodes-snoc b a (u ∷ us) v hs = addNodes-snoc b a us v (addLines (position b a u) (linesOf b a u) hs)
 
 -- ---- the lines
 
@@ -53,28 +44,21 @@ lines-add p l (h ∷ hs) = go (eqb (h .interval .line) l) (eqb-sym l (h .interva
 
 -- ---- where a line stands
 
-pub lookup-snoc : (xs : List ℕ) (x k : ℕ) → lookup (xs ++ (x ∷ [])) k ≡ orElse (lookup xs k) (placed (eqb x k) (length xs))
+pub lookup-absent : (xs : List ℕ) (k : ℕ) → lookup xs k ≡ absent → times k xs ≡ 0
 unfolding lookup
-lookup-snoc xs x k =
-    ap (first (λ i. eqb (getD (xs ++ (x ∷ [])) i 0) k)) (length-append xs (x ∷ []) ∙ add-one (length xs))
-    ∙ ap₂ (λ (f : Found) (y : ℕ). orElse f (placed (eqb y k) (length xs)))
-    (first-same (λ i. eqb (getD (xs ++ (x ∷ [])) i 0) k) (λ i. eqb (getD xs i 0) k) (length xs)
-    (λ i h. ap (λ (y : ℕ). eqb y k) (List·getD-append xs (x ∷ []) 0 i h)))
-    (getD-append-seam xs x [] 0)
+lookup-absent xs k e = go (decLt 0 (times k xs))
+  where
+    nowhere : PlaceBelow (length xs) k xs → ⊥
+    nowhere r =
+        eqb-false (getD xs (r .place) 0) k (first-absent (λ i. eqb (getD xs i 0) k) (length xs) e (r .place) (r .inside)) (r .holds)
+
+    go : Dec (0 < times k xs) → times k xs ≡ 0
+    go (yes m) = absurd (nowhere (place-times (length xs) k xs (omega (arith, ap (times k) (take-length xs)))))
+    go (no m) = omega arith
 
 pub slot-absent : (hs : List Held) (l : ℕ) → slot hs l ≡ absent → times l (linesIn hs) ≡ 0
-unfolding slot lookup
-slot-absent hs l e = go (decLt 0 (times l (linesIn hs)))
-  where
-    nowhere : PlaceBelow (length (linesIn hs)) l (linesIn hs) → ⊥
-    nowhere r =
-        eqb-false (getD (linesIn hs) (r .place) 0) l
-        (first-absent (λ i. eqb (getD (linesIn hs) i 0) l) (length (linesIn hs)) e (r .place) (r .inside))
-        (r .holds)
-
-    go : Dec (0 < times l (linesIn hs)) → times l (linesIn hs) ≡ 0
-    go (yes m) = absurd (nowhere (place-times (length (linesIn hs)) l (linesIn hs) (omega (arith, ap (times l) (take-length (linesIn hs))))))
-    go (no m) = omega arith
+unfolding slot
+slot-absent hs l e = lookup-absent (linesIn hs) l e
 
 -- the first place of a line
 pub slot-at : (hs : List Held) (l i : ℕ) → slot hs l ≡ at i → FirstOf (λ j. eqb (getD (linesIn hs) j 0) l) (length (linesIn hs)) i
@@ -108,18 +92,3 @@ add-there p l (h ∷ hs) (suc i) d r =
     (ap (λ (ks : List Held). h ∷ ks)
     (add-there p l hs i d
     (record { known = omega (arith, r .known); passes = r .passes; fail = λ k m. r .fail (suc k) (omega arith) })))
-
-pub slot-add-new : (p l : ℕ) (hs : List Held) (k : ℕ) → slot hs l ≡ absent → slot (add p l hs) k ≡ orElse (slot hs k) (placed (eqb l k) (length hs))
-unfolding slot
-slot-add-new p l hs k e =
-    ap (λ (ks : List ℕ). lookup ks k)
-    (lines-add p l hs ∙ ap (λ (t : Bool). linesIn hs ++ cond t [] (l ∷ [])) (member-no l (linesIn hs) (slot-absent hs l e)))
-    ∙ lookup-snoc (linesIn hs) l k
-    ∙ ap (λ (n : ℕ). orElse (slot hs k) (placed (eqb l k) n)) (length-map hs (λ h. h .interval .line))
-
-pub slot-add-there : (p l : ℕ) (hs : List Held) (k i : ℕ) → slot hs l ≡ at i → slot (add p l hs) k ≡ slot hs k
-unfolding slot
-slot-add-there p l hs k i e =
-    ap (λ (ks : List ℕ). lookup ks k)
-    (lines-add p l hs ∙ ap (λ (t : Bool). linesIn hs ++ cond t [] (l ∷ [])) (member-yes l (linesIn hs) (slot-times hs l i e))
-    ∙ append-nil (linesIn hs))

@@ -5,21 +5,22 @@ use native.Mathlib.Omega.{arith}
 use mathlib.Core.Path.{_≡_, refl, sym, ap, ap₂, _∙_}
 use mathlib.Core.Logic.{_↔_}
 use mathlib.Core.Bool.{Bool, true, false, _&&_, cond}
-use mathlib.Core.List.{List, [], map, map-map}
+use mathlib.Core.List.{List, [], _∷_, map, map-map}
 use lib.ListN.{length, getD, length-map}
 use lib.Dec.{eqb, ltb}
 use borrow.Author.Tests.{eq-eqb, ne-eqb, lt-ltb}
-use Rattle.lists.specs.Lists.{all, keep, member, least, greatest, In, Rising}
+use Rattle.lists.specs.Lists.{all, keep, times, member, least, greatest, In, Rising}
 use Rattle.lists.specs.Found.{at, number}
 use Rattle.lists.proofs.Count.{length-keep}
 use Rattle.lists.proofs.First.{first-is}
+use Rattle.lists.proofs.Members.{member-yes, times-kept}
 use Rattle.paper.specs.Area.{K, position, nodesOf}
 use Rattle.paper.specs.Accepted.{Accepted}
 use Rattle.paper.specs.Lookup.{lookup}
 use Rattle.paper.specs.Intervals.{Interval, Records, records, none, touched, listedPositions, interval, within, contiguous, intervals}
 use Rattle.intervals_theory.specs.SmallMap.{Held, addNodes, fills}
 use Rattle.intervals_theory.specs.Collected.{Listing, held}
-use Rattle.intervals_theory.proofs.Laws.{all-in, all-map, all-passes, all-passed, rising-places}
+use Rattle.intervals_theory.proofs.Laws.{least-there, all-in, all-map, all-passes, all-passed, rising-places}
 use Rattle.intervals_theory.proofs.Filled.{Filled, filled}
 use Rattle.intervals_theory.proofs.Collected.{collected, listed-some, touched-known}
 
@@ -65,6 +66,18 @@ module _ {b a : List ℕ} (acc : Accepted b a) (list : List ℕ) (listing : List
       place =
           ap (λ (p : ℕ). number (lookup positions p)) (sym (row .lowest))
           ∙ ap number (lookup-rising positions (acc .rises l line) (row .place) (omega (arith, row .inside, length-map (nodesOf b a l) (position b a), some)))
+
+  -- the lowest listed position is one of the line's
+  pub lowest-on-line : (l : ℕ) → In l (touched b a list) → member (held b a list l .interval .lowest) (map (position b a) (nodesOf b a l)) ≡ true
+  unfolding held interval listedPositions
+  lowest-on-line l i =
+      member-yes (least (listedPositions b a list l)) (map (position b a) (nodesOf b a l)) (go (listedPositions b a list l) refl)
+    where
+      go : (ps : List ℕ) → listedPositions b a list l ≡ ps → 1 ≤ times (least (listedPositions b a list l)) (map (position b a) (nodesOf b a l))
+      go [] e = absurd (omega (arith, listed-some acc list listing l i, ap length e))
+      go (p ∷ ps) e =
+          let there : 1 ≤ times (least (listedPositions b a list l)) (listedPositions b a list l) = rw e (least-there p ps) in
+          omega (arith, times-kept (position b a) (λ v. member v list) (least (listedPositions b a list l)) (nodesOf b a l))
 
   pub intervals-by-map : intervals b a list
       ≡ cond (all (fills b a) (addNodes b a list [])) (records (map (λ h. h .interval) (addNodes b a list []))) none

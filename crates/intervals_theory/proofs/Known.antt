@@ -1,6 +1,7 @@
 -- In accepted tables a node lists known lines, each at most once, and a line lists a node at most once.
 -- Rests on accepted_theory's Starts and on Laws.
 use Prim.Native.Nat.{ℕ, suc, _+_, _≤_, _<_}
+use native.Mathlib.Decide.{decLt}
 use native.Mathlib.Omega.{arith}
 use mathlib.Core.Path.{_≡_, ap}
 use mathlib.Core.List.{List}
@@ -42,5 +43,9 @@ module _ {b a : List ℕ} (acc : Accepted b a) where
   pub nodes-once : (l : ℕ) → l < K b a → (v : ℕ) → times v (nodesOf b a l) ≤ 1
   nodes-once l h = rising-once (position b a) (nodesOf b a l) (acc .rises l h)
 
-  pub lines-once : (v : ℕ) → v < N b → (l : ℕ) → l < K b a → times l (linesOf b a v) ≤ 1
-  lines-once v h l k = omega (arith, acc .listed v h l k, one-small (member v (nodesOf b a l)))
+  pub lines-once : (v : ℕ) → v < N b → (l : ℕ) → times l (linesOf b a v) ≤ 1
+  lines-once v h l = go (decLt l (K b a))
+    where
+      go : Dec (l < K b a) → times l (linesOf b a v) ≤ 1
+      go (yes k) = omega (arith, acc .listed v h l k, one-small (member v (nodesOf b a l)))
+      go (no k) = omega (arith, lines-known v h l (omega arith))

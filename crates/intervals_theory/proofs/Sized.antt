@@ -16,13 +16,12 @@ use Rattle.lists.proofs.Count.{one-eq, one-ne, cond-one, cond-add}
 use Rattle.lists.proofs.Compare.{fits}
 use Rattle.lists.proofs.Members.{member-yes}
 use Rattle.paper.specs.Map.{N}
-use Rattle.paper.specs.Area.{K, position, linesOf}
+use Rattle.paper.specs.Area.{position, linesOf}
 use Rattle.paper.specs.Accepted.{Accepted}
 use Rattle.intervals_theory.specs.SmallMap.{Held, widened, add, addLines, addNodes}
 use Rattle.intervals_theory.specs.Collected.{Sized, linesIn, countOn}
-use Rattle.intervals_theory.proofs.Laws.{in-below}
 use Rattle.intervals_theory.proofs.Add.{lines-add}
-use Rattle.intervals_theory.proofs.Known.{lines-known, lines-once}
+use Rattle.intervals_theory.proofs.Known.{lines-once}
 
 -- ---- counts
 
@@ -67,7 +66,7 @@ count-nowhere (h ∷ hs) k e = go (eqb k (h .interval .line)) e (count-nowhere h
     go true e ih = absurd (omega arith)
     go false e ih = omega (arith, ih (omega arith))
 
-place-line : (hs : List Held) (i : ℕ) (d : Held) → i < length hs → 1 ≤ times (getD hs i d .interval .line) (linesIn hs)
+pub place-line : (hs : List Held) (i : ℕ) (d : Held) → i < length hs → 1 ≤ times (getD hs i d .interval .line) (linesIn hs)
 place-line [] i d h = absurd (omega arith)
 place-line (x ∷ xs) zero d h = omega (arith, one-eq (x .interval .line) (x .interval .line) refl)
 place-line (x ∷ xs) (suc i) d h = omega (arith, place-line xs i d (omega arith))
@@ -132,30 +131,18 @@ sized-add {k} {hs} sized p l h =
         omega (arith, times-add j, sized .once j, ap (λ (t : Bool). times j (last t)) (member-yes l (linesIn hs) (omega arith)))
     single j (no ne) d = omega (arith, times-add j, last-most j, one-ne j l ne, sized .once j)
 
-pub sized-lines : {k : ℕ} {hs : List Held} → Sized k hs → (p : ℕ) (ls : List ℕ) → ((l : ℕ) → In l ls → l < k) → Sized k (addLines p ls hs)
-unfolding addLines
-sized-lines sized p [] known = sized
-sized-lines sized p (l ∷ ls) known = sized-lines (sized-add sized p l (known l (inl refl))) p ls (λ j i. known j (inr i))
-
 pub sized-room : {k : ℕ} {hs : List Held} → Sized k hs → length hs ≤ k
 sized-room {k} {hs} sized = omega (arith, fits k (linesIn hs) (sized .below) (sized .once), length-map hs (λ h. h .interval .line))
 
 module _ {b a : List ℕ} (acc : Accepted b a) where
-  pub sized-nodes : (vs : List ℕ) → ((v : ℕ) → In v vs → v < N b) → (hs : List Held) → Sized (K b a) hs → Sized (K b a) (addNodes b a vs hs)
-  unfolding addNodes
-  sized-nodes [] known hs sized = sized
-  sized-nodes (v ∷ vs) known hs sized =
-      sized-nodes vs (λ u i. known u (inr i)) (addLines (position b a v) (linesOf b a v) hs)
-      (sized-lines sized (position b a v) (linesOf b a v) (in-below (K b a) (linesOf b a v) (lines-known acc v (known v (inl refl)))))
-
   -- a node is counted once on a line at most
-  pub count-most-nodes : (vs : List ℕ) → ((v : ℕ) → In v vs → v < N b) → (l : ℕ) → l < K b a → times l (flatMap (linesOf b a) vs) ≤ length vs
+  pub count-most-nodes : (vs : List ℕ) → ((v : ℕ) → In v vs → v < N b) → (l : ℕ) → times l (flatMap (linesOf b a) vs) ≤ length vs
   unfolding flatMap
-  count-most-nodes [] known l h = omega arith
-  count-most-nodes (v ∷ vs) known l h =
+  count-most-nodes [] known l = omega arith
+  count-most-nodes (v ∷ vs) known l =
       omega (
         arith,
         count-append (eqb l) (linesOf b a v) (flatMap (linesOf b a) vs),
-        lines-once acc v (known v (inl refl)) l h,
-        count-most-nodes vs (λ u i. known u (inr i)) l h,
+        lines-once acc v (known v (inl refl)) l,
+        count-most-nodes vs (λ u i. known u (inr i)) l,
       )

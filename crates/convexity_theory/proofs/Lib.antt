@@ -1,0 +1,12 @@
+pub mod Memberships
+pub mod Extremes
+pub mod Line
+pub mod Paths
+pub mod Tables
+pub mod Spans
+pub mod Borders
+pub mod Walk
+pub mod Ended
+pub mod Numbers
+pub mod Convexity
+pub mod Instances

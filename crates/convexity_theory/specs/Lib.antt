@@ -1,0 +1,3 @@
+pub mod Lined
+pub mod Fits
+pub mod Walked
