@@ -1,0 +1,12 @@
+pub mod Later
+pub mod Places
+pub mod Neighbours
+pub mod Rows
+pub mod Listed
+pub mod Passing
+pub mod Together
+pub mod Marks
+pub mod Convex
+pub mod ByNeighbour
+pub mod Ends
+pub mod Instances
