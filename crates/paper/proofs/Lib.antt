@@ -5,3 +5,5 @@ pub mod Recording
 pub mod Cases
 pub mod Vectors
 pub mod Recorded
+pub mod Plain
+pub mod Promise

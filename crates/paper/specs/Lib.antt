@@ -13,4 +13,5 @@ pub mod Calls
 pub mod Words
 pub mod Lookup
 pub mod Plain
+pub mod Promise
 pub mod Text
