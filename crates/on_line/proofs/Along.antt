@@ -12,7 +12,7 @@ use Rattle.lists.specs.Found.{front}
 use Rattle.lists.proofs.Sections.{part, length-part, getD-part}
 use Rattle.paper.specs.Area.{K, position, nodesOf}
 use Rattle.paper.specs.Walk.{nextOn}
-use Rattle.lookup.specs.Line.{Line, positionsOn}
+use Rattle.lookup.specs.Line.{positionsOn}
 use Rattle.tables.specs.Usable.{Usable, positionsAt}
 use Rattle.tables.proofs.Words.{position-is, nodes-are, nodes-span, node-known}
 use Rattle.on_line.specs.Along.{LineAt, nodesAlong, positionsAlong, nextAlong}

@@ -1,6 +1,6 @@
 -- A line as it stands in the area: its nodes between two line starts, and the positions of all nodes.
 -- Rests on lookup's Line and tables' Usable.
-use Prim.Native.Nat.{ℕ, _+_, _*_, _≤_}
+use Prim.Native.Nat.{ℕ, _+_, _≤_}
 use mathlib.Core.List.{List}
 use lib.ListN.{length, getD}
 use lib.Dec.{ltb}

@@ -1,18 +1,16 @@
 -- The tables' words by their places in the area: positions, lists of lines and of nodes as parts, each entry, and what is known of it.
 -- Rests on lines_theory.Written (where sections start) and accepted_theory (starts).
-use Prim.Native.Nat.{ℕ, suc, _+_, _*_, _-_, _≤_, _<_}
+use Prim.Native.Nat.{ℕ, suc, _+_, _-_, _≤_, _<_}
 use native.Mathlib.Numerals.{add-one}
 use native.Mathlib.Omega.{arith}
-use mathlib.Core.Path.{_≡_, refl, sym, ap, ap₂, _∙_, subst}
+use mathlib.Core.Path.{_≡_, sym, ap, ap₂, _∙_}
 use mathlib.Core.List.{List}
 use lib.ListN.{length, getD, take}
 use lib.Seq.{slice, length-slice, getD-take, getD-drop}
-use Rattle.paper.specs.Map.{N, L}
 use Rattle.paper.specs.Area.{Section, start, wordOf, part, K, position, linesOf, nodesOf}
-use Rattle.paper.specs.Accepted.{Starts}
 use Rattle.lines_theory.proofs.Written.{startIs, start-is}
 use Rattle.accepted_theory.proofs.Starts.{start-most}
-use Rattle.tables.specs.Usable.{Usable, Spanned, positionsAt, nodeStartsAt, linesAt, lineStartsAt, nodesAt, scratchAt, entriesOf}
+use Rattle.tables.specs.Usable.{Usable, Spanned, positionsAt, nodeStartsAt, linesAt, lineStartsAt, nodesAt, entriesOf}
 
 -- one entry of a list of entries
 pub entry-word : (a : List ℕ) (starts at x i : ℕ) → getD a (starts + x) 0 + i < getD a (starts + (x + 1)) 0

@@ -10,10 +10,6 @@ use Rattle.on_line.proofs.Along.{handed}
 use borrow.Author.Needs.{needs}
 use Rattle.on_line.proofs.index_on.Statement.{statement}
 use Rattle.on_line.proofs.index_on.Tie as tie
-use Rattle.on_line.proofs.index_on.Reads as reads
-use Rattle.on_line.proofs.index_on.Lts as lts
-use Rattle.lookup.proofs.find_index.Reads as find-index-reads
-use Rattle.tables.proofs.entries.Reads as entries-reads
 
 mul-entries : tie.Need-mul-entries
 mul-entries c = search needs

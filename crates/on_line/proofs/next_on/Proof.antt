@@ -14,10 +14,6 @@ use Rattle.on_line.proofs.Along.{handed}
 use borrow.Author.Needs.{needs}
 use Rattle.on_line.proofs.next_on.Statement.{statement}
 use Rattle.on_line.proofs.next_on.Tie as tie
-use Rattle.on_line.proofs.next_on.Reads as reads
-use Rattle.on_line.proofs.next_on.Lts as lts
-use Rattle.lookup.proofs.next_after.Reads as next-after-reads
-use Rattle.tables.proofs.entries.Reads as entries-reads
 
 mul-entries : tie.Need-mul-entries
 mul-entries c = search needs

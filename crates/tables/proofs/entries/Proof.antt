@@ -10,9 +10,6 @@ use lib.Seq.{slice}
 use Rattle.tables.specs.Usable.{entriesOf}
 use Rattle.tables.proofs.entries.Statement.{statement}
 use Rattle.tables.proofs.entries.Tie as tie
-use Rattle.tables.proofs.entries.Reads as reads
-use Rattle.tables.proofs.entries.Lts as lts
-use Rattle.words.proofs.section.word_at.Reads as word-at-reads
 
 between : (n f t : ℕ) (l : List ℕ) → n ≡ t - f → take n (drop f l) ≡ slice f t l
 between n zero t l e = ap (λ (k : ℕ). take k l) (whole n e)

@@ -1,0 +1,63 @@
+-- What one line changes leaves the other lines as they were: the records keep lines of their own, and marks and slots still tell them.
+-- Rests on Room's definitions.
+use Prim.Native.Nat.{ℕ, _+_, _<_}
+use native.Mathlib.Decide.{decLt}
+use native.Mathlib.Omega.{arith}
+use mathlib.Core.Path.{_≡_, sym, ap, _∙_, subst}
+use mathlib.Core.Logic.{_⊎_, inl, inr}
+use mathlib.Core.Bool.{true}
+use mathlib.Core.List.{List}
+use lib.ListN.{getD}
+use Rattle.paper.specs.Area.{K}
+use Rattle.paper.specs.Intervals.{Interval}
+use Rattle.paper.specs.Records.{recordAt}
+use Rattle.paper.specs.Refusals.{onLine}
+use Rattle.tables.specs.Recorded.{Unmarked, Marked}
+use Rattle.records.specs.Slots.{slotsAt, marksAt}
+use Rattle.extension.specs.Room.{OwnLines, Ahead, Changed}
+
+module _ {room : List ℕ} {made x : ℕ} {after : List ℕ} {count : ℕ} (changed : Changed room made x after count) where
+  -- the new record is the last
+  new-line : (j : ℕ) → j < count → (j < made → ⊥) → recordAt after j .line ≡ x
+  new-line j h ne =
+      let last : j ≡ made = omega (arith, changed .most, ne) in
+      ap (λ (k : ℕ). recordAt after k .line) last ∙ changed .new (omega arith)
+
+  pub own-still : {b a : List ℕ} → OwnLines b a room made → x < K b a → OwnLines b a after count
+  own-still {b} {a} own known =
+      record { known = λ j h. knows j h (decLt j made); lone = λ i j o h e. alone i j o h (decLt j made) e }
+    where
+      knows : (j : ℕ) → j < count → Dec (j < made) → recordAt after j .line < K b a
+      knows j h (yes g) = omega (arith, changed .lines j g, own .known j g)
+      knows j h (no g) = omega (arith, new-line j h g)
+
+      alone : (i j : ℕ) → i < j → j < count → Dec (j < made) → recordAt after i .line ≡ recordAt after j .line → ⊥
+      alone i j o h (yes g) e = own .lone i j o g (sym (changed .lines i (omega arith)) ∙ e ∙ changed .lines j g)
+      alone i j o h (no g) e =
+          let early : i < made = omega (arith, changed .most) in
+          changed .free (omega (arith, g)) i early (sym (changed .lines i early) ∙ e ∙ new-line j h g)
+
+  pub ahead-still : {b a : List ℕ} {n l y : ℕ} → (y ≡ x → ⊥) → Ahead b a n l room made y → Ahead b a n l after count y
+  ahead-still {b} {a} {n} {l} {y} ne ahead = record { slot = go (ahead .slot); high = λ j h e. ends j h e (decLt j made) }
+    where
+      none-there : Unmarked a room made (marksAt n l) y → (j : ℕ) → j < count → Dec (j < made) → recordAt after j .line ≡ y → ⊥
+      none-there free j h (yes g) e = free .none j g (sym (changed .lines j g) ∙ e)
+      none-there free j h (no g) e = ne (sym e ∙ new-line j h g)
+
+      go : Unmarked a room made (marksAt n l) y ⊎ Marked a room made (slotsAt n l) (marksAt n l) y
+          → Unmarked a after count (marksAt n l) y ⊎ Marked a after count (slotsAt n l) (marksAt n l) y
+      go (inl free) = inl (record { mark = free .mark; none = λ j h. none-there free j h (decLt j made) })
+      go (inr has) =
+          inr (
+          record {
+            mark = has .mark;
+            known = omega (arith, has .known, changed .least);
+            line = changed .lines (getD a (slotsAt n l + y) 0) (has .known) ∙ has .line;
+          }
+          )
+
+      ends : (j : ℕ) → j < count → recordAt after j .line ≡ y → Dec (j < made) → onLine b a y (recordAt after j .highest) ≡ true
+      ends j h e (yes g) =
+          let there : recordAt room j .line ≡ y = sym (changed .lines j g) ∙ e in
+          subst (λ (r : Interval). onLine b a y (r .highest) ≡ true) (sym (changed .others j g (λ o. ne (sym there ∙ o)))) (ahead .high j g there)
+      ends j h e (no g) = absurd (ne (sym e ∙ new-line j h g))

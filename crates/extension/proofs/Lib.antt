@@ -1,0 +1,10 @@
+pub mod Putting
+pub mod Growing
+pub mod Next
+pub mod Lines
+pub mod Keeping
+pub mod Extending
+pub mod Going
+pub mod Taking
+pub mod Ending
+pub mod Answers

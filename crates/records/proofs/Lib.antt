@@ -1,0 +1,9 @@
+pub mod Any
+pub mod Slots
+pub mod Reasons
+pub mod Few
+pub mod Meaning
+pub mod Refusing
+pub mod Slotting
+pub mod Standing
+pub mod Testing

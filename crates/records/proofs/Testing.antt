@@ -1,0 +1,139 @@
+-- The test of given records put together: a count beyond the buffer, 12 at a bad record, then what 13 says.
+-- Rests on Meaning, Slotting and accepted_theory (the words in use alone decide).
+use Prim.Native.Nat.{ℕ, _*_, _/_, _≤_, _<_}
+use native.Mathlib.Omega.{arith}
+use borrow.Author.Tests.{lt-ltb, le-ltb}
+use mathlib.Core.Path.{_≡_, refl, sym, ap, _∙_, subst}
+use mathlib.Core.Logic.{_⊎_, inl, inr}
+use mathlib.Core.Bool.{Bool, cond}
+use mathlib.Core.List.{List, [], _∷_}
+use lib.Dec.{eqb}
+use lib.ListN.{length}
+use Rattle.lists.specs.Found.{first}
+use Rattle.paper.specs.Area.{K}
+use Rattle.paper.specs.Records.{recordsIn}
+use Rattle.paper.specs.Refusals.{Ruling, passed, refusal, refuse, badRecord, wholeRecords, rule12, rule13, decide}
+use Rattle.accepted_theory.specs.SameTables.{SameTables}
+use Rattle.accepted_theory.proofs.Records.{badRecord-same, rule13-same}
+use Rattle.accepted_theory.proofs.Refusals.{not-passed}
+use Rattle.tables.specs.Usable.{Usable}
+use Rattle.tables.specs.Recorded.{Recorded, Slotted}
+use Rattle.tables.proofs.Within.{within-none}
+use Rattle.tables.proofs.Usable.{tables-still, still-usable}
+use Rattle.records.specs.Slots.{slotsAt, marksAt, NodeAt, straddlesHere}
+use Rattle.records.specs.Tested.{Passed, AllTested, Tested, checkedSaid}
+use Rattle.records.specs.declared.Checked.{Checked}
+use Rattle.records.specs.declared.Checked.the-variants.{Good, Bad, Straddling}
+use Rattle.records.proofs.Meaning.{node-at, rule13-is}
+
+-- the first of two rulings
+refused-first : {i v : ℕ} {u : Ruling} → refusal i v ≡ u → (w : Ruling) → refusal i v ≡ decide (u ∷ (w ∷ []))
+unfolding decide
+refused-first e w = ap (λ (u : Ruling). decide (u ∷ (w ∷ []))) e
+
+passed-first : {u : Ruling} → passed ≡ u → (w : Ruling) → w ≡ decide (u ∷ (w ∷ []))
+unfolding decide
+passed-first e w = alone w ∙ ap (λ (u : Ruling). decide (u ∷ (w ∷ []))) e
+  where
+    alone : (w : Ruling) → w ≡ decide (w ∷ [])
+    alone passed = refl
+    alone (refusal n v) = refl
+
+-- "A record count beyond the buffer gives 12 with the number of whole records as place, before any record is read"
+pub beyond : (b a : List ℕ) (n l p : ℕ) (words : List ℕ) {count : ℕ} → length words / 3 < count → Tested b a n l p words count (Bad (length words / 3)) a
+unfolding rule12 wholeRecords
+beyond b a n l p words {count} h =
+    record {
+      said = refused-first (ap (λ (t : Bool). cond t (refusal 12 (length words / 3)) (refuse 12 (first (badRecord b a words) count))) (sym (lt-ltb (length words / 3) count h))) (rule13 b a (recordsIn words count));
+      slotted = λ e. absurd (not-passed e);
+      recorded = λ e. absurd (not-passed e);
+      kept = within-none;
+    }
+
+pub within-buffer : (words : List ℕ) {count : ℕ} → count ≤ length words / 3 → 3 * count ≤ length words
+within-buffer words h = omega arith
+
+module _ {b a : List ℕ} {n l p : ℕ} (usable : Usable b a n l p) {words : List ℕ} {count : ℕ} (fits : count ≤ length words / 3) {found : Checked} {m : List ℕ} (tested : AllTested b a n l p words count found m) where
+  by-12 : checkedSaid found ≡ rule12 b a words count
+  unfolding rule12 wholeRecords
+  by-12 =
+      tested .said
+      ∙ ap (λ (t : Bool). cond t (refusal 12 (length words / 3)) (refuse 12 (first (badRecord b a words) count))) (sym (le-ltb (length words / 3) count fits))
+
+  pub bad-record : (found ≡ Good → ⊥) → Tested b a n l p words count found m
+  bad-record ne =
+      record {
+        said = go found ne by-12;
+        slotted = λ e. absurd (refused found ne e);
+        recorded = λ e. absurd (refused found ne e);
+        kept = tested .kept;
+      }
+    where
+      go : (r : Checked) → (r ≡ Good → ⊥) → checkedSaid r ≡ rule12 b a words count
+          → checkedSaid r ≡ decide (rule12 b a words count ∷ (rule13 b a (recordsIn words count) ∷ []))
+      go Good ne e = absurd (ne refl)
+      go (Bad i) ne e = refused-first e (rule13 b a (recordsIn words count))
+      go (Straddling v) ne e = refused-first e (rule13 b a (recordsIn words count))
+
+      refused : (r : Checked) → (r ≡ Good → ⊥) → checkedSaid r ≡ passed → ⊥
+      refused Good ne e = ne refl
+      refused (Bad i) ne e = not-passed e
+      refused (Straddling v) ne e = not-passed e
+
+  module _ (good : found ≡ Good) where
+    before : Passed b m n l words count
+    before = tested .good (ap checkedSaid good)
+
+    same : SameTables b a m
+    same = tables-still usable (tested .kept)
+
+    recorded-there : Recorded b m words count
+    recorded-there = record { fits = within-buffer words fits; good = before .good }
+
+    pub nodes-there : (v : ℕ) → v < n → NodeAt m words n l v
+    nodes-there = node-at (still-usable usable (tested .kept)) recorded-there (before .slotted)
+
+    pub all-tested : {r : Checked} → checkedSaid r ≡ refuse 13 (first (straddlesHere m words n l) n) → Tested b a n l p words count r m
+    all-tested said =
+        record {
+          said =
+              said ∙ rule13-is (still-usable usable (tested .kept)) recorded-there (before .slotted) ∙ sym (rule13-same same (recordsIn words count))
+              ∙ passed-first (ap checkedSaid (sym good) ∙ by-12) (rule13 b a (recordsIn words count));
+          slotted = λ e. subst (Slotted m words count (slotsAt n l) (marksAt n l)) (sym (same .count)) (before .slotted);
+          recorded = λ e. record { fits = within-buffer words fits; good = λ i h. badRecord-same same words i ∙ before .good i h };
+          kept = tested .kept;
+        }
+
+-- ---- what stands in the area that the test leaves, for the calls that go on from there
+
+module _ {b a : List ℕ} {n l p : ℕ} (usable : Usable b a n l p) {words : List ℕ} {count : ℕ} {r : Checked} {m : List ℕ} (tested : Tested b a n l p words count r m) (good : checkedSaid r ≡ passed) where
+  pub recorded-after : Recorded b m words count
+  recorded-after =
+      record {
+        fits = tested .recorded good .fits;
+        good = λ i h. sym (badRecord-same (tables-still usable (tested .kept)) words i) ∙ tested .recorded good .good i h;
+      }
+
+  pub slotted-after : Slotted m words count (slotsAt n l) (marksAt n l) (K b m)
+  slotted-after =
+      subst (Slotted m words count (slotsAt n l) (marksAt n l)) (tables-still usable (tested .kept) .count) (tested .slotted good)
+
+-- an enum's tag that is not that of `Good`
+pub other-tag : (tag : Checked → ℕ) → tag Good ≡ 0 → {found : Checked} → (tag found ≡ 1) ⊎ (tag found ≡ 2) → found ≡ Good → ⊥
+other-tag tag good (inl h) e = omega (arith, ap tag e)
+other-tag tag good (inr h) e = omega (arith, ap tag e)
+
+-- ---- the answer's meaning tells its cases apart
+
+meant : Ruling → Checked
+meant passed = Good
+meant (refusal i v) = cond (eqb i 12) (Bad v) (Straddling v)
+
+meant-said : (r : Checked) → meant (checkedSaid r) ≡ r
+unfolding meant
+meant-said Good = refl
+meant-said (Bad i) = refl
+meant-said (Straddling v) = refl
+
+pub checkedSaid-injective : (r s : Checked) → checkedSaid r ≡ checkedSaid s → r ≡ s
+checkedSaid-injective r s e = sym (meant-said r) ∙ ap meant e ∙ meant-said s

@@ -1,0 +1,54 @@
+-- `records::check_records` meets its contract: 12 by the count or at a bad record, else what 13 says.
+-- Rests on Testing.
+use borrow.Author.Needs.{needs}
+use mathlib.Core.Path.{refl}
+use denote.Enum.Declared.{tagOf}
+use Rattle.records.proofs.Testing.{beyond, bad-record, nodes-there, all-tested, other-tag}
+use Rattle.records.proofs.Checked.{the-type}
+use Rattle.records.proofs.check_records.Statement.{statement}
+use Rattle.records.proofs.check_records.Tie as tie
+
+returns : tie.Need-returns
+returns c =
+    let start = c .before .before .before .before in
+    beyond (start .args .b .now) (start .args .area .now) (start .args .n) (start .args .l) (start .args .p) (start .args .words .now) (c .if1 .taken)
+
+slot-records-requires : tie.Need-slot-records-requires
+slot-records-requires c κs = search needs
+
+enum-told : tie.Need-enum-told
+enum-told c = search needs
+
+same-length : tie.Need-same-length
+same-length c = search needs
+
+returns-2 : tie.Need-returns-2
+returns-2 c =
+    let slotted = c .before .before .before in
+    bad-record (slotted .before .before .before .before .before .before .pre) (slotted .before .before .if1 .left) (slotted .slot-records .ensures) (other-tag (tagOf the-type) refl (c .match .keys2))
+
+find-straddling-requires : tie.Need-find-straddling-requires
+find-straddling-requires c κs =
+    let slotted = c .before .before .before .before .before in
+    nodes-there (slotted .before .before .before .before .before .before .pre) (slotted .before .before .if1 .left) (slotted .slot-records .ensures) (c .before .enum-told .given .1)
+
+same-length-2 : tie.Need-same-length-2
+same-length-2 c = search needs
+
+returns-3 : tie.Need-returns-3
+returns-3 c =
+    let slotted = c .before .before .before .before .before .before in
+    all-tested (slotted .before .before .before .before .before .before .pre) (slotted .before .before .if1 .left) (slotted .slot-records .ensures) (c .before .before .enum-told .given .1) (c .find-straddling .ensures)
+
+pub check-records-spec : {M : Type 1} → statement M
+check-records-spec =
+    tie.close
+    (tie.spec
+    returns
+    slot-records-requires
+    enum-told
+    same-length
+    returns-2
+    find-straddling-requires
+    same-length-2
+    returns-3)

@@ -1,0 +1,61 @@
+-- `records::find_straddling` meets its contract: no node passed straddles, and the first that does decides.
+-- Rests on Refusing.
+use Prim.Native.Nat.{ℕ, _-_, _≤_, _<_}
+use native.Mathlib.Omega.{arith}
+use borrow.Author.Count.{below-none}
+use borrow.Author.Needs.{needs}
+use mathlib.Core.Path.{_≡_}
+use mathlib.Core.Bool.{false}
+use Rattle.records.proofs.Refusing.{next-fine, first-bad, none-bad}
+use Rattle.records.specs.Slots.{straddlesHere}
+use Rattle.records.proofs.find_straddling.Statement.{statement}
+use Rattle.records.proofs.find_straddling.Tie as tie
+
+abbrev Inv-loop : tie.InvT-loop
+Inv-loop area n l words v₀ v = (v ≤ n) × ((u : ℕ) → u < v → straddlesHere area words n l u ≡ false)
+
+abbrev μ-loop : tie.MeasureT-loop
+μ-loop area n l words v₀ v = n - v
+
+loop-holds : tie.Need-loop-holds Inv-loop μ-loop
+loop-holds c = (omega arith, below-none _)
+
+straddles-requires : tie.Need-straddles-requires Inv-loop μ-loop
+straddles-requires c κs = c .before .before .before .before .pre (c .before .loop .v) (c .loop-test .taken)
+
+returns : tie.Need-returns Inv-loop μ-loop
+returns c =
+    let turn = c .before .before in
+    let start = turn .before .before .before .before in
+    first-bad 13 (straddlesHere (start .args .area .now) (start .args .words .now) (start .args .n) (start .args .l)) (start .args .n) (turn .before .loop .inv .1) (turn .loop-test .taken) (c .before .straddles .ensures) (c .if1 .taken)
+
+add-v : tie.Need-add-v Inv-loop μ-loop
+add-v c = search needs
+
+loop-less : tie.Need-loop-less Inv-loop μ-loop
+loop-less c = search needs
+
+loop-again : tie.Need-loop-again Inv-loop μ-loop
+loop-again c =
+    let turn = c .before .before in
+    let start = turn .before .before .before .before in
+    (omega (arith, turn .loop-test .taken), next-fine (straddlesHere (start .args .area .now) (start .args .words .now) (start .args .n) (start .args .l)) (turn .before .loop .inv .1) (c .before .straddles .ensures) (c .if1 .left))
+
+returns-2 : tie.Need-returns-2 Inv-loop μ-loop
+returns-2 c =
+    let start = c .before .before .before .before in
+    none-bad 13 (straddlesHere (start .args .area .now) (start .args .words .now) (start .args .n) (start .args .l)) (start .args .n) (c .before .loop .inv .1) (c .loop-test .left)
+
+pub find-straddling-spec : {M : Type 1} → statement M
+find-straddling-spec =
+    tie.close
+    (tie.spec
+    Inv-loop
+    μ-loop
+    loop-holds
+    straddles-requires
+    returns
+    add-v
+    loop-less
+    loop-again
+    returns-2)

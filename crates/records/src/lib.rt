@@ -1,0 +1,86 @@
+// Records in a caller's words: refusals 12 and 13, and which nodes lie inside them.
+pub mod bad;
+pub mod inside;
+
+ghost use mathlib.Core.Path.{_≡_};
+ghost use Prim.Native.Nat.{ℕ, _*_, _≤_, _<_};
+ghost use lib.ListN.{length};
+ghost use Rattle.lists.specs.Found.{first};
+ghost use Rattle.paper.specs.Refusals.{refuse};
+ghost use Rattle.tables.specs.Usable.{Usable};
+ghost use Rattle.records.specs.Slots.{NodeAt, straddlesHere};
+ghost use Rattle.records.specs.Tested.{AllTested, Tested, checkedSaid};
+use bad::check_record;
+use inside::straddles;
+use words::section::fill;
+
+// What the test of given records comes to: refusals 12 and 13, or that they may be used.
+pub enum Checked {
+    Good,
+    Bad(usize),
+    Straddling(usize),
+}
+
+// Tests the records one by one until one is bad: refusal 12. Each line of a good one gets a mark, and the record's number in its slot.
+fn slot_records(
+    b: &[u8],
+    n: usize,
+    l: usize,
+    p: usize,
+    area: &mut [u16],
+    words: &[u16],
+    count: usize,
+) -> Checked
+    requires { ⌜ Usable (now b) (now area) n l p ⌝ }
+    requires { ⌜ 3 * count ≤ length (now words) ⌝ }
+    ensures { λ r. ⌜ AllTested (now (b .entry)) (now (area .entry)) n l p (now (words .entry)) count r (now (area .exit)) ⌝ }
+{
+    fill(area, 3 + 6 * n + 5 * l + (n + l), n + l, 0);
+    let mut i = 0;
+    while i < count {
+        if !check_record(b, n, l, p, area, words, i) {
+            return Checked::Bad(i);
+        }
+        i += 1;
+    }
+    Checked::Good
+}
+
+// Looks for the lowest node that is inside on one line and outside on another: refusal 13.
+fn find_straddling(area: &[u16], n: usize, l: usize, words: &[u16]) -> Checked
+    requires { ⌜ ((v : ℕ) → v < n → NodeAt (now area) (now words) n l v) ⌝ }
+    ensures { λ r. ⌜ checkedSaid r ≡ refuse 13 (first (straddlesHere (now (area .entry)) (now (words .entry)) n l) n) ⌝ }
+{
+    let mut v = 0;
+    while v < n {
+        if straddles(area, n, l, words, v) {
+            return Checked::Straddling(v);
+        }
+        v += 1;
+    }
+    Checked::Good
+}
+
+// Tests `count` records by 12 and 13. A count beyond the buffer is refused before any record is read.
+pub fn check_records(
+    b: &[u8],
+    n: usize,
+    l: usize,
+    p: usize,
+    area: &mut [u16],
+    words: &[u16],
+    count: usize,
+) -> Checked
+    requires { ⌜ Usable (now b) (now area) n l p ⌝ }
+    ensures { λ r. ⌜ Tested (now (b .entry)) (now (area .entry)) n l p (now (words .entry)) count r (now (area .exit)) ⌝ }
+{
+    let whole = words.len() / 3;
+    if whole < count {
+        return Checked::Bad(whole);
+    }
+    let found = slot_records(b, n, l, p, area, words, count);
+    let Checked::Good = found else {
+        return found;
+    };
+    find_straddling(area, n, l, words)
+}
