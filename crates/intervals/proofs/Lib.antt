@@ -1,0 +1,11 @@
+pub mod Buffer
+pub mod Adding
+pub mod Became
+pub mod Node
+pub mod Nodes
+pub mod Testing
+pub mod Words
+pub mod Cleared
+pub mod Records
+pub mod Whole
+pub mod Said
