@@ -1,0 +1,13 @@
+pub mod Joining
+pub mod Lowest
+pub mod Targets
+pub mod Neighbours
+pub mod Linking
+pub mod Indexing
+pub mod Turning
+pub mod Below
+pub mod Good
+pub mod Running
+pub mod Laying
+pub mod Starting
+pub mod Answers
