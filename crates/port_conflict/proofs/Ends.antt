@@ -1,0 +1,125 @@
+-- One link: its two ports from what is read, how small they are, and what the marks at them say.
+-- Rests on Written, links_by_port's Writing and order_theory's Refusals.
+use Prim.Native.Nat.{ℕ, _+_, _*_, _<_}
+use native.Mathlib.Omega.{arith}
+use mathlib.Core.Path.{_≡_, refl, sym, ap, ap₂, _∙_}
+use mathlib.Core.Bool.{Bool, true, false, _&&_, _||_, or-true}
+use mathlib.Core.List.{List}
+use lib.Dec.{eqb}
+use lib.ListN.{length, getD, set}
+use borrow.Author.Tests.{eq-eqb, ne-eqb}
+use Rattle.paper.specs.Map.{ins, linkFrom, linkOut, linkTo, linkIn, sourcePort, targetPort}
+use Rattle.order_theory.specs.Sound.{Sound}
+use Rattle.order_theory.proofs.Refusals.{sound}
+use Rattle.links_by_port.proofs.Writing.{
+  source-known,
+  target-known,
+  node-inside,
+  source-below,
+  target-below,
+  source-key,
+  source-start,
+  target-key,
+}
+use Rattle.port_conflict.specs.FirstLinks.{leads}
+use Rattle.port_conflict.specs.Marks.{marked, inputMarks, outputMarks, Laid, LinkPassed}
+use Rattle.port_conflict.proofs.Written.{mark-read}
+
+module _ {b a : List ℕ} {n l p at k : ℕ} (laid : Laid b a n l p at) (more : k < l) where
+  links-known : Sound b
+  links-known = sound b (laid .links)
+
+  -- ---- the port that it starts at, v being the node
+
+  module _ {v : ℕ} (node : v ≡ linkFrom b k) where
+    source-node : v < n
+    source-node = omega (arith, node, source-known (laid .read) links-known more)
+
+    pub source-first : at + v < length a
+    source-first = omega (arith, source-node, laid .room)
+
+    pub source-record : 4 * v + 3 < length b
+    source-record = node-inside (laid .read) links-known more source-node
+
+    module _ {w i : ℕ} (first : w ≡ getD a (at + v) 0) (inputs : i ≡ ins b v) where
+      pub outputs-start : w + i < 4096
+      outputs-start =
+          omega (
+            arith,
+            source-start b k node (first ∙ laid .firsts v source-node) inputs,
+            source-below (laid .read) links-known more,
+            laid .read .few-ports,
+          )
+
+      pub source-is : {o : ℕ} → o ≡ linkOut b k → w + i + o ≡ sourcePort b k
+      source-is = source-key b k node (first ∙ laid .firsts v source-node) inputs
+
+  pub source-small : sourcePort b k < 4096
+  source-small = omega (arith, source-below (laid .read) links-known more, laid .read .few-ports)
+
+  -- ---- the port that it ends at
+
+  module _ {v : ℕ} (node : v ≡ linkTo b k) where
+    target-node : v < n
+    target-node = omega (arith, node, target-known (laid .read) links-known more)
+
+    pub target-first : at + v < length a
+    target-first = omega (arith, target-node, laid .room)
+
+    pub target-is : {w i : ℕ} → w ≡ getD a (at + v) 0 → i ≡ linkIn b k → w + i ≡ targetPort b k
+    target-is first = target-key b k node (first ∙ laid .firsts v target-node)
+
+  pub target-small : targetPort b k < 4096
+  target-small = omega (arith, target-below (laid .read) links-known more, laid .read .few-ports)
+
+  -- ---- both are ports
+
+  pub ends-small : {s t : ℕ} → s ≡ sourcePort b k → t ≡ targetPort b k → (s < p) × (t < p)
+  ends-small source target =
+      (omega (arith, source-below (laid .read) links-known more), omega (arith, target-below (laid .read) links-known more))
+
+-- ---- what the marks at them say
+
+module _ (a : List ℕ) (marks p q other : ℕ) {w : ℕ} (read : w ≡ getD a (marks + p + q) 0) where
+  pub leads-nowhere : (w ≡ 1 → ⊥) → false ≡ leads (marked a marks) (marked a (marks + p)) q other
+  leads-nowhere off = sym (ap (λ (c : Bool). c && marked a marks other) (sym (mark-read a (marks + p) q read) ∙ ne-eqb w 1 off))
+
+  pub leads-by : {x : ℕ} → w ≡ 1 → x ≡ getD a (marks + other) 0 → eqb x 1 ≡ leads (marked a marks) (marked a (marks + p)) q other
+  leads-by on then =
+      mark-read a marks other then
+      ∙ sym (ap (λ (c : Bool). c && marked a marks other) (sym (mark-read a (marks + p) q read) ∙ eq-eqb w 1 on))
+
+module _ (b a : List ℕ) (n p at k : ℕ) {s t : ℕ} (source : s ≡ sourcePort b k) (target : t ≡ targetPort b k) where
+  abbrev pub leads-now : ℕ → ℕ → Bool
+  leads-now = leads (marked a (inputMarks n at)) (marked a (outputMarks n p at))
+
+  here : leads-now s t ≡ leads-now (sourcePort b k) (targetPort b k)
+  here = ap₂ leads-now source target
+
+  there : leads-now t s ≡ leads-now (targetPort b k) (sourcePort b k)
+  there = ap₂ leads-now target source
+
+  pub meets-forward : {r : Bool} → r ≡ leads-now s t → r ≡ true → LinkPassed b a a n p at k true
+  meets-forward says e =
+      record {
+        says = sym (ap (λ (c : Bool). c || leads-now (targetPort b k) (sourcePort b k)) (sym here ∙ sym says ∙ e));
+        left = refl;
+      }
+
+  pub meets-backward : {r : Bool} → r ≡ leads-now t s → r ≡ true → LinkPassed b a a n p at k true
+  meets-backward says e =
+      record {
+        says =
+            sym
+            (ap (λ (c : Bool). leads-now (sourcePort b k) (targetPort b k) || c) (sym there ∙ sym says ∙ e)
+            ∙ or-true (leads-now (sourcePort b k) (targetPort b k)));
+        left = refl;
+      }
+
+  pub meets-not : {r r' : Bool} → r ≡ leads-now s t → r ≡ false → r' ≡ leads-now t s → r' ≡ false
+      → LinkPassed b a (set (set a (outputMarks n p at + s) 0) (outputMarks n p at + t) 0) n p at k false
+  meets-not says e says' e' =
+      record {
+        says = sym (ap₂ _||_ (sym here ∙ sym says ∙ e) (sym there ∙ sym says' ∙ e'));
+        left = ap₂ (λ (x y : ℕ). set (set a (outputMarks n p at + x) 0) (outputMarks n p at + y) 0) source target;
+      }

@@ -1,0 +1,3 @@
+pub mod FirstLinks
+pub mod Marks
+pub mod Said

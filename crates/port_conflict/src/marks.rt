@@ -1,0 +1,36 @@
+// Lists of ports as marks: refusal 14, and a word for each port that is 1 if the port is listed.
+ghost use Prim.Native.Nat.{_+_, _≤_};
+ghost use lib.ListN.{length};
+ghost use Rattle.port_conflict.specs.Marks.{ListMarked, PortMarked};
+ghost use Rattle.port_conflict.specs.Said.{portsSaid};
+use super::PortsFound;
+use words::field::wide;
+use words::section::fill;
+
+// Marks a port of a map of p ports: whether there is such a port.
+pub fn mark_port(area: &mut [u16], marks: usize, p: usize, port: usize) -> bool
+    requires { ⌜ marks + p ≤ length (now area) ⌝ }
+    ensures { λ r. ⌜ PortMarked (now (area .entry)) (now (area .exit)) marks p port r ⌝ }
+{
+    if port >= p {
+        return false;
+    }
+    area[marks + port] = 1;
+    true
+}
+
+// Marks a list of ports, and no other port, or answers its first unknown one.
+pub fn mark_ports(area: &mut [u16], marks: usize, p: usize, ports: &[u16]) -> PortsFound
+    requires { ⌜ marks + p ≤ length (now area) ⌝ }
+    ensures { λ r. ⌜ ListMarked (now (area .entry)) (now (area .exit)) marks p (now (ports .entry)) (portsSaid r) ⌝ }
+{
+    fill(area, marks, p, 0);
+    let mut i = 0;
+    while i < ports.len() {
+        if !mark_port(area, marks, p, wide(ports[i])) {
+            return PortsFound::Unknown(i);
+        }
+        i += 1;
+    }
+    PortsFound::Clear
+}

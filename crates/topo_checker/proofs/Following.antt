@@ -1,0 +1,265 @@
+-- Passing the places, from the words of the area to topo_theory's states: one place, then all of the range.
+-- Rests on Neighbours, Nearby's contracts, and topo_theory (Passing, Ends).
+use Prim.Native.Nat.{ℕ, suc, _+_, _*_, _-_, _≤_, _<_}
+use native.Mathlib.Numerals.{add-one}
+use native.Mathlib.Omega.{arith}
+use mathlib.Core.Path.{_≡_, refl, sym, ap, ap₂, _∙_, subst}
+use mathlib.Core.Logic.{inl}
+use mathlib.Core.Bool.{Bool, true, false, _&&_, not, cond}
+use mathlib.Core.List.{List, [], _++_, map}
+use lib.ListN.{getD}
+use lib.Dec.{eqb, leb}
+use Rattle.lists.specs.Lists.{upto, one, any, keep, member}
+use Rattle.lists.specs.Found.{number}
+use Rattle.lists.proofs.AllAny.{any-same}
+use Rattle.paper.specs.Map.{outNeighbours}
+use Rattle.paper.specs.Order.{placeIn}
+use Rattle.paper.specs.Area.{orderOf}
+use Rattle.paper.specs.Intervals.{No}
+use Rattle.paper.specs.OrderCheck.{inRange, neighbourPlaces}
+use Rattle.toposort.specs.Laid.{firstsAt, startsAt, sortedAt}
+use Rattle.topo_theory.specs.Passed.{Passed, going, fedBack, passPlace, passedBelow, replyOf}
+use Rattle.topo_theory.proofs.Ends.{starts-at-first, fed-stays}
+use Rattle.topo_theory.proofs.Passing.{outsiders, pass-listed, pass-feeding, pass-marked, pass-other}
+use Rattle.topo_theory.proofs.Rows.{any-append}
+use Rattle.tables.specs.Within.{Within}
+use Rattle.tables.proofs.Within.{within-none, within-both, within-wider}
+use Rattle.topo_checker.specs.Layout.{marksAt, Laid}
+use Rattle.topo_checker.specs.Near.{placeReached, isListed, isOther, Reaching, leadsOut, OthersMarked}
+use Rattle.topo_checker.specs.Passing.{ListedBy, FutureBy, Follows, PlacePassed, Unpassed, StillGoing, PlacesPassed}
+use Rattle.topo_checker.proofs.Marks.{mark-yes, mark-no, mark-zero, mark-some, mark-or}
+use Rattle.topo_checker.proofs.Kept.{any-keep, keep-rest}
+use Rattle.topo_checker.proofs.Laying.{order-still, laid-still}
+use Rattle.topo_checker.proofs.Neighbours.{order-inside, reaching, near}
+
+-- ---- a place by its mark
+
+module _ {a : List ℕ} {n marks first last : ℕ} {places : List ℕ} (listed : ListedBy a n marks first last places) where
+  range-is : (j : ℕ) → inRange places j ≡ (leb first j && leb j last)
+  unfolding inRange
+  range-is j = ap₂ (λ (x y : ℕ). leb x j && leb j y) (listed .lowest) (listed .highest)
+
+  listed-is : (j : ℕ) → j < n → (inRange places j && member j places) ≡ isListed a marks first last j
+  unfolding isListed
+  listed-is j h =
+      ap₂ (λ (s t : Bool). s && t) (range-is j) (sym (ap (λ (w : ℕ). not (eqb w 0)) (listed .marked j h) ∙ mark-some (member j places)))
+
+  other-is : (j : ℕ) → j < n → (inRange places j && not (member j places)) ≡ isOther a marks first last j
+  unfolding isOther
+  other-is j h =
+      ap₂ (λ (s t : Bool). s && t) (range-is j) (sym (ap (λ (w : ℕ). eqb w 0) (listed .marked j h) ∙ mark-zero (member j places)))
+
+-- ---- the place's neighbours
+
+turned : (r g e : Bool) → (r && (g && e)) ≡ (e && (r && g))
+turned true true true = refl
+turned true true false = refl
+turned true false true = refl
+turned true false false = refl
+turned false g true = refl
+turned false g false = refl
+
+module _ {b a : List ℕ} {n l p : ℕ} (laid : Laid b a n l p) {i v : ℕ} (h : i < n) (is : v ≡ getD a (1 + i) 0)
+    {s e : ℕ} (starts : s ≡ getD a (startsAt n l + getD a (firstsAt n l + v) 0) 0)
+    (ends : e ≡ getD a (startsAt n l + getD a (firstsAt n l + (v + 1)) 0) 0) where
+  reached : Reaching b a n (sortedAt n l p) (marksAt n l p) s (e - s)
+  reached = reaching laid h is starts ends
+
+  module _ (first last : ℕ) where
+    meets-is : {places : List ℕ} → ListedBy a n (marksAt n l p) first last places → any (λ j. member j places) (neighbourPlaces b a places i)
+        ≡ any (λ x. isListed a (marksAt n l p) first last (placeReached b a n (sortedAt n l p) (marksAt n l p) (s + x))) (upto (e - s))
+    meets-is {places} listed =
+        near laid h is starts ends (λ j. member j places) places
+        ∙ any-same _ _ (e - s) (λ x g. listed-is listed (placeReached b a n (sortedAt n l p) (marksAt n l p) (s + x)) (reached .reached x g))
+
+    outside-is : {places : List ℕ} → ListedBy a n (marksAt n l p) first last places → (j : ℕ)
+        → member j (outsiders b a places i) ≡ leadsOut b a n (sortedAt n l p) (marksAt n l p) s first last (e - s) j
+    unfolding leadsOut
+    outside-is {places} listed j =
+        any-keep (eqb j) (λ k. not (member k places)) (neighbourPlaces b a places i)
+        ∙ near laid h is starts ends (λ k. not (member k places) && eqb j k) places
+        ∙ any-same _ _ (e - s)
+        (λ x g. each (placeReached b a n (sortedAt n l p) (marksAt n l p) (s + x)) (reached .reached x g))
+      where
+        each : (k : ℕ) → k < n → (inRange places k && (not (member k places) && eqb j k)) ≡ (eqb j k && isOther a (marksAt n l p) first last k)
+        each k g =
+            turned (inRange places k) (not (member k places)) (eqb j k) ∙ ap (λ (t : Bool). eqb j k && t) (other-is listed k g)
+
+    module _ {m : List ℕ} (others : OthersMarked b a n (sortedAt n l p) (marksAt n l p) s (e - s) first last m) where
+      future-more : {places : List ℕ} (future : List ℕ) → ListedBy a n (marksAt n l p) first last places → FutureBy a n (marksAt n l p) future
+          → FutureBy m n (marksAt n l p) (future ++ outsiders b a places i)
+      future-more {places} future listed marked j g =
+          others .marked j g
+          ∙ ap₂ (λ (t : Bool) (w : ℕ). cond t 1 w) (sym (outside-is listed j)) (marked j g)
+          ∙ mark-or (member j future) (member j (outsiders b a places i))
+          ∙ ap one (sym (any-append (eqb j) future (outsiders b a places i)))
+
+    -- ---- what each return leaves
+
+    module _ {w : ℕ} (own : w ≡ getD a (marksAt n l p + i) 0) where
+      pub passed-listed : (w ≡ 0 → ⊥) → {m : List ℕ} → OthersMarked b a n (sortedAt n l p) (marksAt n l p) s (e - s) first last m
+          → PlacePassed b a n l p first last i false m
+      passed-listed ne {m} others =
+          record {
+            kept = others .kept;
+            follows = λ places future listed marked.
+                subst (Follows n (marksAt n l p) false m)
+                (sym (pass-listed b a places i future (mark-yes (member i places) (own ∙ listed .marked i h) ne)))
+                (refl, future-more others future listed marked);
+          }
+
+      module _ (z : w ≡ 0) {u : ℕ} (ahead : u ≡ getD a (marksAt n l p + n + i) 0) where
+        out : {places : List ℕ} → ListedBy a n (marksAt n l p) first last places → member i places ≡ false
+        out {places} listed = mark-no (member i places) (own ∙ listed .marked i h) z
+
+        pub passed-other : u ≡ 0 → PlacePassed b a n l p first last i false a
+        passed-other y =
+            record {
+              kept = within-none;
+              follows = λ places future listed marked.
+                  subst (Follows n (marksAt n l p) false a)
+                  (sym (pass-other b a places i future (out listed) (mark-no (member i future) (ahead ∙ marked i h) y)))
+                  (refl, marked);
+            }
+
+        module _ (ne : u ≡ 0 → ⊥) {r : Bool}
+            (meets : r ≡ any (λ x. isListed a (marksAt n l p) first last (placeReached b a n (sortedAt n l p) (marksAt n l p) (s + x))) (upto (e - s))) where
+          on : (future : List ℕ) → FutureBy a n (marksAt n l p) future → member i future ≡ true
+          on future marked = mark-yes (member i future) (ahead ∙ marked i h) ne
+
+          feeds : {t : Bool} → r ≡ t → {places : List ℕ} → ListedBy a n (marksAt n l p) first last places
+              → any (λ j. member j places) (neighbourPlaces b a places i) ≡ t
+          feeds is-t listed = meets-is listed ∙ sym meets ∙ is-t
+
+          pub passed-feeding : r ≡ true → PlacePassed b a n l p first last i true a
+          passed-feeding is-t =
+              record {
+                kept = within-none;
+                follows = λ places future listed marked.
+                    subst (Follows n (marksAt n l p) true a) (sym (pass-feeding b a places i future (out listed) (on future marked) (feeds is-t listed))) refl;
+              }
+
+          pub passed-marked : r ≡ false → {m : List ℕ} → OthersMarked b a n (sortedAt n l p) (marksAt n l p) s (e - s) first last m
+              → PlacePassed b a n l p first last i false m
+          passed-marked is-f {m} others =
+              record {
+                kept = others .kept;
+                follows = λ places future listed marked.
+                    subst (Follows n (marksAt n l p) false m) (sym (pass-marked b a places i future (out listed) (on future marked) (feeds is-f listed))) (
+                      refl,
+                      subst (λ (xs : List ℕ). FutureBy m n (marksAt n l p) (future ++ xs))
+                          (keep-rest (λ j. member j places) (neighbourPlaces b a places i) (feeds is-f listed)) (future-more others future listed marked),
+                    );
+              }
+
+-- ---- the range
+
+passPlace-still : (b a m : List ℕ) → orderOf b m ≡ orderOf b a → (places : List ℕ) (i : ℕ) (future : List ℕ)
+    → passPlace b m places i (going future) ≡ passPlace b a places i (going future)
+unfolding passPlace neighbourPlaces
+passPlace-still b a m e places i future =
+    ap
+    (λ (o : List ℕ). pass (keep (inRange places) (map (λ v. number (placeIn o v)) (outNeighbours b (getD o i 0)))))
+    e
+  where
+    pass : List ℕ → Passed
+    pass ns =
+        cond (member i places) (going (future ++ keep (λ j. not (member j places)) ns))
+        (cond (member i future) (cond (any (λ j. member j places) ns) fedBack (going (future ++ ns))) (going future))
+
+-- the places below i are passed, whatever is listed
+pub record GoingOn (b a : List ℕ) (n l p first last i : ℕ) (m : List ℕ) : Type 0 where
+  pub kept : Within (marksAt n l p + n) n a m
+  pub going : (places : List ℕ) → ListedBy a n (marksAt n l p) first last places → StillGoing b a n (marksAt n l p) i places m
+
+module _ {b a : List ℕ} {n l p first last : ℕ} (laid : Laid b a n l p) (unpassed : Unpassed a n l p first last) where
+  pub going-first : GoingOn b a n l p first last first a
+  going-first =
+      record {
+        kept = within-none;
+        going = λ places listed.
+            record {
+              future = [];
+              state = ap (passedBelow b a places) (sym (listed .lowest)) ∙ starts-at-first b a places;
+              marked = unpassed .blank;
+            };
+      }
+
+  module _ {i : ℕ} {m : List ℕ} (low : i ≤ last) (on : GoingOn b a n l p first last i m) where
+    pub inside : i < n
+    inside = omega (arith, unpassed .known)
+
+    pub laid-now : Laid b m n l p
+    laid-now = laid-still laid (within-wider (on .kept) (marksAt n l p) (2 * n) (omega arith) (omega arith))
+
+    same-order : orderOf b m ≡ orderOf b a
+    same-order =
+        order-still b (laid .linked .read .nodes) a m (on .kept .long) (order-inside laid)
+        (λ j h. on .kept .same (1 + j) (inl (omega arith)))
+
+    listed-now : {places : List ℕ} → ListedBy a n (marksAt n l p) first last places → ListedBy m n (marksAt n l p) first last places
+    listed-now listed =
+        record {
+          marked = λ j h. on .kept .same (marksAt n l p + j) (inl (omega arith)) ∙ listed .marked j h;
+          lowest = listed .lowest;
+          highest = listed .highest;
+        }
+
+    module _ {r : Bool} {m' : List ℕ} (passed : PlacePassed b m n l p first last i r m') where
+      pub both-kept : Within (marksAt n l p + n) n a m'
+      both-kept = within-both (on .kept) (passed .kept)
+
+      -- the state that follows
+      next-state : (places : List ℕ) (listed : ListedBy a n (marksAt n l p) first last places)
+          → passPlace b m places i (going (on .going places listed .future)) ≡ passedBelow b a places (suc i)
+      unfolding passedBelow
+      next-state places listed =
+          passPlace-still b a m same-order places i (on .going places listed .future)
+          ∙ ap (passPlace b a places i) (sym (on .going places listed .state))
+
+      follows-now : (places : List ℕ) (listed : ListedBy a n (marksAt n l p) first last places)
+          → Follows n (marksAt n l p) r m' (passedBelow b a places (suc i))
+      follows-now places listed =
+          subst (Follows n (marksAt n l p) r m') (next-state places listed)
+          (passed .follows places (on .going places listed .future) (listed-now listed) (on .going places listed .marked))
+
+      pub going-next : r ≡ false → GoingOn b a n l p first last (i + 1) m'
+      going-next no-feed =
+          record {
+            kept = both-kept;
+            going = λ places listed. go places (passedBelow b a places (suc i)) refl (follows-now places listed);
+          }
+        where
+          go : (places : List ℕ) (s : Passed) → passedBelow b a places (suc i) ≡ s → Follows n (marksAt n l p) r m' s
+              → StillGoing b a n (marksAt n l p) (i + 1) places m'
+          go places (going future) e f =
+              record { future = future; state = ap (passedBelow b a places) (add-one i) ∙ e; marked = f .1 }
+          go places fedBack e f = absurd (both (sym f ∙ no-feed))
+            where
+              both : true ≡ false → ⊥
+              both q = let z : _≡_ {A = ℕ} 1 0 = ap one q in omega arith
+
+      pub feeds-back : r ≡ true → PlacesPassed b a n l p first last true m'
+      unfolding replyOf
+      feeds-back yes-feed =
+          record {
+            kept = both-kept;
+            replies = λ places listed. go places (passedBelow b a places (suc i)) refl (follows-now places listed);
+          }
+        where
+          go : (places : List ℕ) (s : Passed) → passedBelow b a places (suc i) ≡ s → Follows n (marksAt n l p) r m' s
+              → No ≡ replyOf (passedBelow b a places (suc last))
+          go places (going future) e f = absurd (both (sym (f .0) ∙ yes-feed))
+            where
+              both : false ≡ true → ⊥
+              both q = let z : _≡_ {A = ℕ} 0 1 = ap one q in omega arith
+          go places fedBack e f = ap replyOf (sym (fed-stays b a places (suc i) (suc last) (omega arith) e))
+
+  pub all-passed : {i : ℕ} {m : List ℕ} → GoingOn b a n l p first last i m → i ≤ last + 1 → last < i → PlacesPassed b a n l p first last false m
+  unfolding replyOf
+  all-passed {i} on low high =
+      record {
+        kept = on .kept;
+        replies = λ places listed.
+            ap replyOf (sym (on .going places listed .state) ∙ ap (passedBelow b a places) (omega arith));
+      }

@@ -1,0 +1,11 @@
+pub mod Ends
+pub mod Kept
+pub mod Marks
+pub mod Nearby
+pub mod Taking
+pub mod Laying
+pub mod Neighbours
+pub mod Following
+pub mod Marked
+pub mod Checking
+pub mod Answers

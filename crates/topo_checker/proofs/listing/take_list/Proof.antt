@@ -1,0 +1,83 @@
+-- `topo_checker::listing::take_list` meets its contract: the entries passed are known, and their places are marked.
+-- Rests on Taking.
+use lib.ListN.{length}
+use borrow.Author.Needs.{needs}
+use native.Mathlib.Omega.{arith}
+use Prim.Native.Nat.{_-_, _≤_}
+use Rattle.topo_checker.proofs.Taking.{TakenBelow, taken-none, placed-now, taken-next, unknown-taken, all-taken}
+use Rattle.topo_checker.proofs.listing.take_list.Statement.{statement}
+use Rattle.topo_checker.proofs.listing.take_list.Tie as tie
+
+abbrev Inv-loop : tie.InvT-loop
+Inv-loop n area₀ marks list i₀ area i = (i ≤ length list) × TakenBelow area₀ n marks list i area
+
+abbrev μ-loop : tie.MeasureT-loop
+μ-loop n area₀ marks list i₀ area i = length list - i
+
+loop-holds : tie.Need-loop-holds Inv-loop μ-loop
+loop-holds c = (search needs, taken-none (c .before .before .pre .1) _)
+
+mul-wide : tie.Need-mul-wide Inv-loop μ-loop
+mul-wide c = search needs
+
+shared-slice-read-wide : tie.Need-shared-slice-read-wide Inv-loop μ-loop
+shared-slice-read-wide c = search needs
+
+wide-requires : tie.Need-wide-requires Inv-loop μ-loop
+wide-requires c κs = search needs
+
+take-node-requires : tie.Need-take-node-requires Inv-loop μ-loop
+take-node-requires c κs =
+    let head = c .before .before .before .before in
+    placed-now (head .before .before .before .pre .0) (head .loop .inv .1)
+
+same-length : tie.Need-same-length Inv-loop μ-loop
+same-length c =
+    let node = c .before .before .before in
+    let turn = node .before .before .before .before in
+    unknown-taken (turn .before .before .before .before .pre .0) (turn .before .loop .inv .1) (turn .loop-test .taken) (node .before .before .wide .ensures) (node .take-node .ensures) (c .if1 .taken) .kept .long
+
+returns : tie.Need-returns Inv-loop μ-loop
+returns c =
+    let node = c .before .before .before in
+    let turn = node .before .before .before .before in
+    unknown-taken (turn .before .before .before .before .pre .0) (turn .before .loop .inv .1) (turn .loop-test .taken) (node .before .before .wide .ensures) (node .take-node .ensures) (c .if1 .taken)
+
+add-i : tie.Need-add-i Inv-loop μ-loop
+add-i c = search needs
+
+loop-less : tie.Need-loop-less Inv-loop μ-loop
+loop-less c = search needs
+
+loop-again : tie.Need-loop-again Inv-loop μ-loop
+loop-again c =
+    let node = c .before .before .before in
+    let turn = node .before .before .before .before in (
+      omega (arith, turn .loop-test .taken),
+      taken-next (turn .before .before .before .before .pre .0) (turn .before .loop .inv .1) (turn .loop-test .taken) (node .before .before .wide .ensures) (node .take-node .ensures) (c .if1 .left),
+    )
+
+same-length-2 : tie.Need-same-length-2 Inv-loop μ-loop
+same-length-2 c = c .before .loop .inv .1 .kept .long
+
+returns-2 : tie.Need-returns-2 Inv-loop μ-loop
+returns-2 c = all-taken (c .before .before .before .before .pre .0) (c .before .loop .inv .1) (c .loop-test .left) (c .before .loop .inv .0)
+
+pub take-list-spec : {M : Type 1} → statement M
+take-list-spec =
+    tie.close
+    (tie.spec
+    Inv-loop
+    μ-loop
+    loop-holds
+    mul-wide
+    shared-slice-read-wide
+    wide-requires
+    take-node-requires
+    same-length
+    returns
+    add-i
+    loop-less
+    loop-again
+    same-length-2
+    returns-2)

@@ -1,0 +1,67 @@
+-- `topo_checker::near::mark_others` meets its contract: the places that the links passed lead to are marked as far as they are not listed.
+-- Rests on Nearby.
+use borrow.Author.Needs.{needs}
+use native.Mathlib.Omega.{arith}
+use Prim.Native.Nat.{_-_, _≤_}
+use Rattle.topo_checker.proofs.Nearby.{leads, future-fits, reaching-still, others-none, others-next, others-all}
+use Rattle.topo_checker.specs.Near.{OthersMarked}
+use Rattle.topo_checker.proofs.near.mark_others.Statement.{statement}
+use Rattle.topo_checker.proofs.near.mark_others.Tie as tie
+
+abbrev Inv-loop : tie.InvT-loop
+Inv-loop b n area₀ sorted marks start count first last x₀ area x = (x ≤ count) × OthersMarked b area₀ n sorted marks start x first last area
+
+abbrev μ-loop : tie.MeasureT-loop
+μ-loop b n area₀ sorted marks start count first last x₀ area x = count - x
+
+loop-holds : tie.Need-loop-holds Inv-loop μ-loop
+loop-holds c = (search needs, others-none (c .before .before .pre))
+
+add-place-reached : tie.Need-add-place-reached Inv-loop μ-loop
+add-place-reached c = search needs
+
+place-reached-requires : tie.Need-place-reached-requires Inv-loop μ-loop
+place-reached-requires c κs =
+    let start = c .before .before .before .before .before in
+    leads (reaching-still (start .pre) (c .before .before .loop .inv .1 .kept)) (c .before .loop-test .taken)
+
+mark-other-requires : tie.Need-mark-other-requires Inv-loop μ-loop
+mark-other-requires c κs =
+    let turn = c .before .before .before in
+    future-fits (turn .before .before .before .before .pre) (turn .before .loop .inv .1 .kept) (turn .loop-test .taken) (c .before .place-reached .ensures)
+
+add-x : tie.Need-add-x Inv-loop μ-loop
+add-x c = search needs
+
+loop-less : tie.Need-loop-less Inv-loop μ-loop
+loop-less c = search needs
+
+loop-again : tie.Need-loop-again Inv-loop μ-loop
+loop-again c =
+    let reached = c .before .before .before .before in
+    let turn = reached .before .before in (
+      omega (arith, turn .loop-test .taken),
+      others-next (turn .before .before .before .before .pre) (turn .loop-test .taken) (turn .before .loop .inv .1) (reached .place-reached .ensures) (c .before .before .mark-other .ensures),
+    )
+
+same-length : tie.Need-same-length Inv-loop μ-loop
+same-length c = c .before .loop .inv .1 .kept .long
+
+returns : tie.Need-returns Inv-loop μ-loop
+returns c = others-all (c .before .before .before .before .pre) (c .before .loop .inv .1) (c .before .loop .inv .0) (c .loop-test .left)
+
+pub mark-others-spec : {M : Type 1} → statement M
+mark-others-spec =
+    tie.close
+    (tie.spec
+    Inv-loop
+    μ-loop
+    loop-holds
+    add-place-reached
+    place-reached-requires
+    mark-other-requires
+    add-x
+    loop-less
+    loop-again
+    same-length
+    returns)

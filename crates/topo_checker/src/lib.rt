@@ -1,0 +1,79 @@
+// Translated from src/algorithms/convex/topo_convex_checker.rs of portgraph (88172a3c8e, Apache-2.0, see NOTICE), and changed: marks by
+// place in the lent area for the two sets, the order from the area's tables, and an unknown node is an answer.
+pub mod layout;
+pub mod listing;
+pub mod near;
+pub mod passing;
+
+ghost use Rattle.paper.specs.Calls.{orderRules};
+ghost use Rattle.paper.specs.OrderCheck.{orderCheck};
+ghost use Rattle.paper.specs.Words.{wordsFrom};
+ghost use Rattle.tables.specs.Answered.{Answered};
+ghost use Rattle.tables.specs.Usable.{Usable};
+ghost use Rattle.topo_checker.specs.Layout.{Laid};
+ghost use Rattle.topo_checker.specs.Passing.{Fresh};
+ghost use Rattle.topo_checker.specs.Said.{TakenAnswered, topoSaid};
+use layout::lay_out;
+use listing::Listed;
+use listing::take_list;
+use listing::take_list_bytes;
+use passing::marked_convex;
+use refusals::Refusal;
+
+// What the order check answers.
+pub enum TopoAnswer {
+    Yes,
+    No,
+    Refused(Refusal),
+}
+
+// The answer once the list is taken in: its first unknown entry, or what its places say.
+fn answer_for(b: &[u8], n: usize, l: usize, p: usize, area: &mut [u16], taken: Listed) -> TopoAnswer
+    requires { ⌜ Laid (now b) (now area) n l p ⌝ }
+    requires { ⌜ Fresh (now area) n l p ⌝ }
+    ensures { λ r. ⌜ TakenAnswered (now (b .entry)) (now (area .entry)) n l p taken r (now (area .exit)) ⌝ }
+{
+    if let Listed::Unknown(i) = taken {
+        return TopoAnswer::Refused(Refusal::Unknown(i));
+    }
+    if marked_convex(b, n, l, p, area) {
+        return TopoAnswer::Yes;
+    }
+    TopoAnswer::No
+}
+
+// Whether the nodes listed induce a convex subgraph, the list as a set (the Rust's `is_node_convex`).
+pub fn check_order(
+    b: &[u8],
+    n: usize,
+    l: usize,
+    p: usize,
+    area: &mut [u16],
+    list: &[u16],
+) -> TopoAnswer
+    requires { ⌜ Usable (now b) (now area) n l p ⌝ }
+    ensures { λ r. ⌜ Answered n l p (now (area .entry)) (now (area .exit)) (topoSaid r) (orderRules (now (b .entry)) (now (list .entry))) (orderCheck (now (b .entry)) (now (area .entry)) (now (list .entry))) ⌝ }
+{
+    let marks = 3 + 6 * n + 5 * l + (n + 1) + l + (p + 1) + l;
+    lay_out(b, n, l, p, area);
+    let taken = take_list(n, area, marks, list);
+    answer_for(b, n, l, p, area, taken)
+}
+
+// The same of a list whose words cross as bytes.
+pub fn check_order_bytes(
+    b: &[u8],
+    n: usize,
+    l: usize,
+    p: usize,
+    area: &mut [u16],
+    list: &[u8],
+) -> TopoAnswer
+    requires { ⌜ Usable (now b) (now area) n l p ⌝ }
+    ensures { λ r. ⌜ Answered n l p (now (area .entry)) (now (area .exit)) (topoSaid r) (orderRules (now (b .entry)) (wordsFrom (now (list .entry)))) (orderCheck (now (b .entry)) (now (area .entry)) (wordsFrom (now (list .entry)))) ⌝ }
+{
+    let marks = 3 + 6 * n + 5 * l + (n + 1) + l + (p + 1) + l;
+    lay_out(b, n, l, p, area);
+    let taken = take_list_bytes(n, area, marks, list);
+    answer_for(b, n, l, p, area, taken)
+}
