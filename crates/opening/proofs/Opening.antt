@@ -20,7 +20,7 @@ use Rattle.toposort.proofs.Refusing.{refused-said, passed-said, passed-kept, re
 use Rattle.toposort.proofs.Sizing.{short, roomy, was-refused, sizes}
 use Rattle.opening.specs.declared.Opened.{Opened}
 use Rattle.opening.specs.declared.Opened.the-variants.{Malformed, TooLarge, NoRoom, Missing, Second, NotAccepted, Ready}
-use Rattle.opening.specs.Opened.{Roomy, SizedLeft, OpenLeft, openedSaid, scratchZeroed}
+use Rattle.opening.specs.Opened.{Roomy, HasScratch, SizedLeft, OpenLeft, openedSaid, scratchZeroed}
 
 abbrev Sizes : Type 0
 Sizes = ℕ × ℕ × ℕ
@@ -63,9 +63,13 @@ module _ {b : List ℕ} {n l p : ℕ} (read : ReadWell b n l p) (a : List ℕ) w
   no-room h e = record { said = no-room-said h; left = refused-kept (short read a h) (scratchZeroed a n l p) e }
 
   pub room : {r : Opened} {m : List ℕ} → 7 + 10 * n + 9 * l + 2 * p ≤ length a → openedSaid r ≡ answer (decide (rule45 b ∷ rule7 b a ∷ [])) (n, l, p)
-      → m ≡ sets a (3 + 6 * n + 5 * l) (replicate (4 * n + 4 * l + 2 * p + 4) 0) → SizedLeft b a n l p r m
-  unfolding scratchZeroed
+      → m ≡ scratchZeroed a n l p → SizedLeft b a n l p r m
   room h e f = record { said = room-said h e; left = passed-kept (roomy read a h) a f }
+
+-- an area of the same length has room for the scratch
+pub has-scratch : {b : List ℕ} {n l p : ℕ} → ReadWell b n l p → {a : List ℕ} → 7 + 10 * n + 9 * l + 2 * p ≤ length a → HasScratch a n l p
+has-scratch read room =
+    record { few-nodes = read .few-nodes; few-links = read .few-links; few-ports = read .few-ports; room = room }
 
 -- ---- any map
 

@@ -27,6 +27,13 @@ pub record Roomy (b a : List ℕ) (n l p : ℕ) : Type 0 where
   pub read : ReadWell b n l p
   pub room : 7 + 10 * n + 9 * l + 2 * p ≤ length a
 
+-- a map's sizes within the limits, and an area with room for its scratch
+pub record HasScratch (a : List ℕ) (n l p : ℕ) : Type 0 where
+  pub few-nodes : n ≤ 512
+  pub few-links : l ≤ 2048
+  pub few-ports : p ≤ 4096
+  pub room : 7 + 10 * n + 9 * l + 2 * p ≤ length a
+
 -- the scratch of a map of these sizes, set to 0
 unfoldable pub scratchZeroed : List ℕ → ℕ → ℕ → ℕ → List ℕ
 scratchZeroed a n l p = sets a (3 + 6 * n + 5 * l) (replicate (4 * n + 4 * l + 2 * p + 4) 0)

@@ -1,4 +1,6 @@
 // How every call but preparing opens: refusals 1, 2, 3, 4, 5 and 7 in their order, with the scratch set to 0 past 3.
+pub mod ends;
+
 ghost use mathlib.Core.Path.{_≡_};
 ghost use mathlib.Core.List.{[], _∷_};
 ghost use Rattle.paper.specs.Map.{N, L, P};
@@ -7,11 +9,11 @@ ghost use Rattle.paper.specs.Refusals.{answer, decide, rule3, rule45, rule7};
 ghost use Rattle.stepmap.specs.Formed.{ReadWell};
 ghost use Rattle.opening.specs.Opened.{OpenLeft, Roomy, SizedLeft, openedSaid};
 use acceptance::accepted;
+use ends::clear_scratch;
 use stepmap::links::Links;
 use stepmap::links::check_links;
 use stepmap::read::StepMap;
 use stepmap::read::read_map;
-use words::section::fill;
 
 // What opening a call comes to: refusals 1, 2, 3, 4, 5, 7, or the map's sizes.
 pub enum Opened {
@@ -63,7 +65,7 @@ fn open_sized(b: &[u8], n: usize, l: usize, p: usize, area: &mut [u16]) -> Opene
         return Opened::NoRoom;
     }
     let found = test_tables(b, n, l, p, area);
-    fill(area, 3 + 6 * n + 5 * l, 4 * n + 4 * l + 2 * p + 4, 0);
+    clear_scratch(area, n, l, p);
     found
 }
 

@@ -1,6 +1,5 @@
 -- Number and place tell the reasons apart.
 -- Rests on Said.
-use Prim.Native.Nat.{ℕ}
 use mathlib.Core.Path.{_≡_, refl, sym, ap, _∙_}
 use mathlib.Core.List.{[], _∷_}
 use lib.ListN.{getD}
@@ -23,8 +22,8 @@ use Rattle.refusals.specs.declared.Refusal.the-variants.{
   TooLong,
 }
 
--- by number, from 0; 0 and 6 are no call's
-meant : Ruling → Refusal
+-- the reason of a rule, by its number from 0; 0 and 6 are no call's
+pub meant : Ruling → Refusal
 meant passed = NoRoom
 meant (refusal i v) =
     getD
@@ -35,21 +34,21 @@ meant (refusal i v) =
     i
     NoRoom
 
-back : (x : Refusal) → meant (ruled x) ≡ x
+pub meant-back : (x : Refusal) → meant (ruled x) ≡ x
 unfolding meant
-back Malformed = refl
-back TooLarge = refl
-back NoRoom = refl
-back (Missing k) = refl
-back (Second k) = refl
-back NotAccepted = refl
-back Empty = refl
-back (Unknown i) = refl
-back (Repeated i) = refl
-back (UnknownPort i) = refl
-back (BadRecord i) = refl
-back (Straddling v) = refl
-back (TooLong n) = refl
+meant-back Malformed = refl
+meant-back TooLarge = refl
+meant-back NoRoom = refl
+meant-back (Missing k) = refl
+meant-back (Second k) = refl
+meant-back NotAccepted = refl
+meant-back Empty = refl
+meant-back (Unknown i) = refl
+meant-back (Repeated i) = refl
+meant-back (UnknownPort i) = refl
+meant-back (BadRecord i) = refl
+meant-back (Straddling v) = refl
+meant-back (TooLong n) = refl
 
 pub ruled-injective : (x y : Refusal) → ruled x ≡ ruled y → x ≡ y
-ruled-injective x y e = sym (back x) ∙ ap meant e ∙ back y
+ruled-injective x y e = sym (meant-back x) ∙ ap meant e ∙ meant-back y

@@ -44,6 +44,19 @@ both-passed [] vs e = (refl, e)
 both-passed (passed ∷ us) vs e = both-passed us vs e
 both-passed (refusal n v ∷ us) vs e = absurd (no-refusal e)
 
+-- the rules asked first decide, if one of them refuses; and else those asked then
+pub first-decides : (us vs : List Ruling) → decide us ≢ passed → decide (us ++ vs) ≡ decide us
+unfolding decide
+first-decides [] vs ne = absurd (ne refl)
+first-decides (passed ∷ us) vs ne = first-decides us vs ne
+first-decides (refusal n v ∷ us) vs ne = refl
+
+pub then-decides : (us vs : List Ruling) → passed ≡ decide us → decide (us ++ vs) ≡ decide vs
+unfolding decide
+then-decides [] vs e = refl
+then-decides (passed ∷ us) vs e = then-decides us vs e
+then-decides (refusal n v ∷ us) vs e = absurd (no-refusal e)
+
 -- 3 passed: the area has W words
 pub roomy : (b a : List ℕ) → passed ≡ rule3 b a → W b ≤ length a
 unfolding rule3 refuse

@@ -1,0 +1,133 @@
+-- Intervals put together: the records of a list that was taken in go into the buffer if they fit, and the two areas of the question hold
+-- the same tables.
+-- Rests on Into, RecordCalls (rules that pass before others) and LineCheck.
+use Prim.Native.Nat.{ℕ, _*_, _/_, _≤_, _<_}
+use native.Mathlib.Omega.{arith}
+use mathlib.Core.Path.{_≡_, refl, sym, ap, _∙_, subst}
+use mathlib.Core.List.{List, [], _∷_, flatMap}
+use lib.ListN.{length, take}
+use lib.Seq.{sets}
+use Rattle.paper.specs.Map.{N}
+use Rattle.paper.specs.Intervals.{Records, records, intervals, touched}
+use Rattle.paper.specs.Records.{wordsOfRecords}
+use Rattle.paper.specs.Refusals.{Ruling, Answer, answered, refused, decide, refuse, earliest, rule9, rule10, rule11, wholeRecords}
+use Rattle.paper.specs.Calls.{Written, wrote, nothing, said, wordsOf, needed}
+use Rattle.records_theory.proofs.Reading.{length-words}
+use Rattle.take_in.specs.Said.{TakenIn}
+use Rattle.take_in.specs.declared.Taken.{Taken}
+use Rattle.take_in.specs.declared.Taken.the-variants.{Empty, Unknown, Repeated}
+use Rattle.take_in.proofs.Answers.{AllNodes, was-empty, was-unknown, was-repeated}
+use Rattle.take_in.proofs.Passing.{rule9-is}
+use Rattle.intervals.specs.Answer.{Collected, intervalsSaid, listIn}
+use Rattle.intervals.specs.declared.Intervals.{Intervals}
+use Rattle.intervals.specs.declared.Intervals.the-variants.{Records as Made, NotContiguous}
+use Rattle.tables.specs.Answered.{AnsweredInto}
+use Rattle.tables.specs.Usable.{Usable, Scratched, scratchAt}
+use Rattle.tables.proofs.Within.{within-both}
+use Rattle.line_checker.proofs.Records.{Wrote, wrote-some, wrote-none, begun-long}
+use Rattle.line_checker.proofs.Into.{Into, into-refused, into-passed, into-answered, none-into, long-into, fit-into, short-enough}
+use Rattle.line_checker.proofs.RecordCalls.{into-after}
+use Rattle.line_checker.proofs.LineCheck.{found-same}
+
+-- 11 of some records and a buffer
+abbrev Rules : List ℕ → Records → List Ruling
+Rules buffer found = rule11 (wholeRecords buffer) (needed found) ∷ []
+
+-- ---- from the intervals of the list in the scratch
+
+module _ {b m : List ℕ} {n l p c : ℕ} {rs : List ℕ} {r : Intervals} {ws o : List ℕ} (got : Collected b m n l p c rs r ws o) (buffer : List ℕ) where
+  pub gap-into : r ≡ NotContiguous
+      → AnsweredInto n l p m o (answered nothing) (Rules buffer (intervals b m (listIn m n l c))) (said (intervals b m (listIn m n l c))) buffer buffer
+      (wordsOf (intervals b m (listIn m n l c)))
+  gap-into e =
+      into-answered (got .kept)
+      (none-into (intervals b m (listIn m n l c)) buffer (wrote-none (intervals b m (listIn m n l c)) (ap intervalsSaid (sym e) ∙ got .says)))
+
+  module _ {made : ℕ} (e : r ≡ Made made) where
+    held : Wrote (intervals b m (listIn m n l c)) made
+    held = wrote-some (intervals b m (listIn m n l c)) made (ap intervalsSaid (sym e) ∙ got .says)
+
+    -- the records stand in the room
+    pub records-inside : 3 * made ≤ length ws
+    unfolding wordsOf
+    records-inside =
+        omega (
+          arith,
+          begun-long ws (wordsOf (intervals b m (listIn m n l c))) (got .written),
+          ap (λ (f : Records). length (wordsOf f)) (held .is),
+          length-words (held .list),
+          held .many,
+        )
+
+    pub records-long : length buffer / 3 < made
+        → AnsweredInto n l p m o (refused 11 made) (Rules buffer (intervals b m (listIn m n l c))) (said (intervals b m (listIn m n l c))) buffer buffer
+        (wordsOf (intervals b m (listIn m n l c)))
+    unfolding wholeRecords
+    records-long h = into-answered (got .kept) (long-into (intervals b m (listIn m n l c)) buffer held h)
+
+    pub records-fit : made ≤ length buffer / 3 → {after : List ℕ} → after ≡ sets buffer 0 (take (3 * made) ws)
+        → AnsweredInto n l p m o (answered (wrote made)) (Rules buffer (intervals b m (listIn m n l c))) (said (intervals b m (listIn m n l c))) buffer after
+        (wordsOf (intervals b m (listIn m n l c)))
+    unfolding wholeRecords
+    records-fit h f = into-answered (got .kept) (fit-into (intervals b m (listIn m n l c)) buffer held h ws (got .written) f)
+
+-- ---- from the caller's list
+
+abbrev Says : List ℕ → List ℕ → List ℕ → List ℕ → Answer Written → List ℕ → Type 0
+Says b a list buffer x after =
+    Into x (rule9 b list ∷ rule10 list ∷ Rules buffer (intervals b a list)) (said (intervals b a list)) buffer after (wordsOf (intervals b a list))
+
+-- "An empty list gives no records."
+no-nodes : (b a buffer : List ℕ) → Says b a [] buffer (answered (wrote 0)) buffer
+unfolding intervals touched flatMap said needed wordsOf wordsOfRecords rule9 rule10 earliest refuse decide
+no-nodes b a buffer =
+    into-passed (rule9 b [] ∷ rule10 [] ∷ Rules buffer (records [])) (wrote 0) buffer [] (short-enough (wholeRecords buffer) 0 (omega arith)) refl
+
+module _ (b a : List ℕ) {n : ℕ} (nodes : N b ≡ n) {list entry : List ℕ} {at : ℕ} {r : Taken} {m : List ℕ} (taken : TakenIn n list entry at r m)
+    (buffer : List ℕ) where
+  pub empty-into : r ≡ Empty → Says b a list buffer (answered (wrote 0)) buffer
+  empty-into e =
+      subst (λ (xs : List ℕ). Says b a xs buffer (answered (wrote 0)) buffer)
+      (sym (eq-nil list (was-empty (subst (λ (x : Taken). TakenIn n list entry at x m) e taken)))) (no-nodes b a buffer)
+    where
+      eq-nil : (xs : List ℕ) → length xs ≡ 0 → xs ≡ []
+      eq-nil [] e = refl
+      eq-nil (x ∷ xs) e = absurd (omega (arith, e))
+
+  pub unknown-into : {i : ℕ} → r ≡ Unknown i → Says b a list buffer (refused 9 i) buffer
+  unfolding decide
+  unknown-into e =
+      into-refused (rule9 b list ∷ rule10 list ∷ Rules buffer (intervals b a list)) (said (intervals b a list)) buffer (wordsOf (intervals b a list))
+      (ap (λ (u : Ruling). decide (u ∷ rule10 list ∷ Rules buffer (intervals b a list)))
+      (sym (rule9-is b list n nodes ∙ was-unknown (subst (λ (x : Taken). TakenIn n list entry at x m) e taken) .1)))
+
+  pub repeated-into : {i : ℕ} → r ≡ Repeated i → Says b a list buffer (refused 10 i) buffer
+  unfolding decide
+  repeated-into e =
+      let ruled = was-repeated (subst (λ (x : Taken). TakenIn n list entry at x m) e taken) in
+      into-refused (rule9 b list ∷ rule10 list ∷ Rules buffer (intervals b a list)) (said (intervals b a list)) buffer (wordsOf (intervals b a list))
+      (sym (
+      ap (λ (u : Ruling). decide (u ∷ rule10 list ∷ Rules buffer (intervals b a list))) (rule9-is b list n nodes ∙ ruled .1)
+      ∙ ap (λ (u : Ruling). decide (u ∷ Rules buffer (intervals b a list))) (ruled .2)
+      ))
+
+-- what is written on the area with the list is what the question answers
+module _ {b a : List ℕ} {n l p : ℕ} (usable : Usable b a n l p) {list : List ℕ} {c : ℕ} {m : List ℕ} (nodes : AllNodes n list (scratchAt n l) c m)
+    (kept : Scratched n l p a m) where
+  pub nodes-into : {o : List ℕ} {x : Answer Written} {buffer after : List ℕ}
+      → AnsweredInto n l p m o x (Rules buffer (intervals b m (listIn m n l c))) (said (intervals b m (listIn m n l c))) buffer after
+      (wordsOf (intervals b m (listIn m n l c)))
+      → AnsweredInto n l p a o x (rule9 b list ∷ rule10 list ∷ Rules buffer (intervals b a list)) (said (intervals b a list)) buffer after
+      (wordsOf (intervals b a list))
+  unfolding decide
+  nodes-into {o} {x} {buffer} {after} got =
+      into-answered (within-both kept (got .kept)) (
+      into-after (rule9 b list ∷ rule10 list ∷ [])
+      (sym (
+      ap (λ (u : Ruling). decide (u ∷ rule10 list ∷ [])) (rule9-is b list n (usable .read .nodes) ∙ nodes .none-unknown)
+      ∙ ap (λ (u : Ruling). decide (u ∷ [])) (nodes .none-repeated)
+      ))
+      (Rules buffer (intervals b a list)) (said (intervals b a list))
+      (subst (λ (f : Records). Into x (Rules buffer f) (said f) buffer after (wordsOf f)) (found-same usable nodes kept)
+      (record { says = got .says; written = got .written }))
+      )

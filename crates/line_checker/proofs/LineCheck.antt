@@ -1,0 +1,156 @@
+-- The line check put together: a list taken in, its intervals on that area, and the walk on the area after it, answer as on the area
+-- that the question began with.
+-- Rests on Records, records_theory (intervals pass 12) and accepted_theory (two areas with the same tables).
+use Prim.Native.Nat.{ℕ, _*_, _≤_, _<_}
+use native.Mathlib.Omega.{arith}
+use mathlib.Core.Path.{_≡_, sym, ap, _∙_, subst}
+use mathlib.Core.Logic.{_≢_}
+use mathlib.Core.List.{List, [], _∷_}
+use types.Run.{OneOf, miss}
+use denote.Enum.Declared.{tagOf}
+use lib.ListN.{length, getD, take}
+use Rattle.lists.specs.Bounds.{Below}
+use Rattle.lists.specs.Lists.{Distinct}
+use Rattle.lists.proofs.Sections.{part, getD-part}
+use Rattle.paper.specs.Map.{N}
+use Rattle.paper.specs.Intervals.{Reply, No, Records, intervals}
+use Rattle.paper.specs.Walk.{walk, walkOn, lineCheck}
+use Rattle.paper.specs.Records.{recordsIn, wordsOfRecords}
+use Rattle.paper.specs.Refusals.{Ruling, passed, answered, answer, decide, rule8, rule9, rule10, rule12}
+use Rattle.paper.specs.Calls.{lineRules, wordsOf, said as saidOf}
+use Rattle.order_theory.proofs.Refusals.{sound}
+use Rattle.accepted_theory.specs.Every.{Every}
+use Rattle.accepted_theory.specs.SameTables.{KnownNode, KnownRecord, KnownRecords}
+use Rattle.accepted_theory.proofs.Every.{every-below}
+use Rattle.accepted_theory.proofs.Intervals.{intervals-same, intervals-known}
+use Rattle.accepted_theory.proofs.Walk.{walk-same}
+use Rattle.records_theory.proofs.Passing.{intervals-pass-12}
+use Rattle.records_theory.proofs.Reading.{length-words}
+use Rattle.tables.specs.Within.{Within}
+use Rattle.tables.specs.Usable.{Usable, Scratched, scratchAt, scratchSize}
+use Rattle.tables.specs.Recorded.{Recorded}
+use Rattle.tables.proofs.Within.{within-both, within-wider}
+use Rattle.tables.proofs.Usable.{roomy, tables-still}
+use Rattle.refusals.specs.Said.{ruled, refusedBy, ruling}
+use Rattle.refusals.specs.declared.Refusal.{Refusal}
+use Rattle.refusals.proofs.Rulings.{no-refusal, ruling-answer}
+use Rattle.take_in.specs.Said.{TakenIn, takenSaid, listRuled}
+use Rattle.take_in.specs.declared.Taken.{Taken}
+use Rattle.take_in.specs.declared.Taken.the-variants.{Empty, Unknown, Repeated, Nodes}
+use Rattle.take_in.proofs.Taken.{the-type}
+use Rattle.take_in.proofs.Answers.{AllNodes, were-nodes}
+use Rattle.take_in.proofs.Passing.{rule9-is, known-below}
+use Rattle.intervals.specs.Holds.{Listed}
+use Rattle.intervals.specs.Answer.{Collected, intervalsSaid}
+use Rattle.intervals.specs.declared.Intervals.{Intervals}
+use Rattle.intervals.specs.declared.Intervals.the-variants.{Records as Made, NotContiguous}
+use Rattle.line_checker.proofs.Records.{Wrote, wrote-some, wrote-none, read-first, begun-long, whole-room, good-still}
+
+-- what taking in a list writes is in the scratch
+pub taken-kept : (n l p : ℕ) {a m : List ℕ} → Within (scratchAt n l) (2 * n) a m → Scratched n l p a m
+taken-kept n l p kept = within-wider kept (scratchAt n l) (scratchSize n l p) (omega arith) (omega arith)
+
+module _ {b a : List ℕ} {n l p : ℕ} (usable : Usable b a n l p) {list : List ℕ} {c : ℕ} {m : List ℕ} (nodes : AllNodes n list (scratchAt n l) c m)
+    (kept : Scratched n l p a m) where
+  below : Below (N b) list
+  below = subst (λ (k : ℕ). Below k list) (sym (usable .read .nodes)) (known-below (nodes .known))
+
+  every : Every (KnownNode b) list
+  every = every-below (N b) list below
+
+  -- 8, 9 and 10 pass
+  pub list-passed : passed ≡ decide (lineRules b list)
+  unfolding lineRules decide
+  list-passed =
+      sym (
+      ap (λ (r : Ruling). decide (r ∷ rule9 b list ∷ rule10 list ∷ [])) (nodes .not-empty)
+      ∙ ap (λ (r : Ruling). decide (r ∷ rule10 list ∷ [])) (rule9-is b list n (usable .read .nodes) ∙ nodes .none-unknown)
+      ∙ ap (λ (r : Ruling). decide (r ∷ [])) (nodes .none-repeated)
+      )
+
+  pub listed : Listed m (scratchAt n l) c n
+  listed =
+      record {
+        few = nodes .few;
+        known = λ i h.
+            subst (λ (x : ℕ). x < n) (ap (λ (xs : List ℕ). getD xs i 0) (sym (nodes .stands)) ∙ getD-part m (scratchAt n l) c i 0 h)
+            (nodes .known .entry i (omega (arith, nodes .count)));
+        once = subst Distinct (sym (nodes .stands)) (nodes .once);
+      }
+
+  -- the intervals on the area with the list are those on the area before
+  pub found-same : intervals b m (part m (scratchAt n l) c) ≡ intervals b a list
+  found-same = ap (intervals b m) (nodes .stands) ∙ sym (intervals-same (tables-still usable kept) list every)
+
+  -- the answer, once all rules passed
+  answered-so : {x : Reply × ℕ} → x ≡ lineCheck b a list → answered x ≡ answer (decide (lineRules b list)) (lineCheck b a list)
+  unfolding answer
+  answered-so e = ap answered e ∙ ap (λ (r : Ruling). answer r (lineCheck b a list)) list-passed
+
+  module _ {r : Intervals} {rs words o : List ℕ} (got : Collected b m n l p c rs r words o) where
+    -- "no with count 0 when not contiguous"
+    pub gap-said : r ≡ NotContiguous → answered (No, 0) ≡ answer (decide (lineRules b list)) (lineCheck b a list)
+    unfolding lineCheck walkOn
+    gap-said e =
+        answered-so (ap (walkOn b a) (sym (wrote-none (intervals b a list) (ap intervalsSaid (sym e) ∙ got .says ∙ ap saidOf found-same))))
+
+    module _ {made : ℕ} (e : r ≡ Made made) where
+      held : Wrote (intervals b a list) made
+      held = wrote-some (intervals b a list) made (ap intervalsSaid (sym e) ∙ got .says ∙ ap saidOf found-same)
+
+      known-records : Every (KnownRecord b a) (held .list)
+      known-records = subst (KnownRecords b a) (held .is) (intervals-known (tables-still usable kept) list every)
+
+      -- the words begin with the records
+      begins : take (length (wordsOfRecords (held .list))) words ≡ wordsOfRecords (held .list)
+      unfolding wordsOf
+      begins = subst (λ (found : Records). take (length (wordsOf found)) words ≡ wordsOf found) (found-same ∙ held .is) (got .written)
+
+      fits : 3 * made ≤ length words
+      fits = omega (arith, begun-long words (wordsOfRecords (held .list)) begins, length-words (held .list), held .many)
+
+      reads : recordsIn words made ≡ held .list
+      reads = ap (recordsIn words) (held .many) ∙ read-first words (held .list) (omega (arith, whole-room words made fits, held .many)) begins
+
+      both : Scratched n l p a o
+      both = within-both kept (got .kept)
+
+      pass-12 : rule12 b a words made ≡ passed
+      pass-12 =
+          ap (rule12 b a words) (held .many)
+          ∙ intervals-pass-12 (usable .tables) (roomy usable) list below (held .is) words (ap (recordsIn words) (sym (held .many)) ∙ reads)
+          (omega (arith, whole-room words made fits, held .many))
+
+      pub recorded : Recorded b o words made
+      recorded = good-still (tables-still usable both) words made fits pass-12
+
+      pub walk-said : {x : Reply × ℕ} → x ≡ walk b o (recordsIn words made) → answered x ≡ answer (decide (lineRules b list)) (lineCheck b a list)
+      unfolding lineCheck walkOn
+      walk-said f =
+          answered-so (
+          f ∙ ap (walk b o) reads ∙ sym (walk-same (tables-still usable both) (sound b (usable .links)) (held .list) known-records)
+          ∙ ap (walkOn b a) (sym (held .is))
+          )
+
+-- ---- a list that was not taken in
+
+-- 8, 9 or 10 refuses
+pub not-taken : (r : Taken) → OneOf (0 ∷ 1 ∷ 2 ∷ []) (tagOf the-type r) → ruling (takenSaid r) ≢ passed
+unfolding ruling
+not-taken Empty h e = no-refusal (sym e)
+not-taken (Unknown i) h e = no-refusal (sym e)
+not-taken (Repeated i) h e = no-refusal (sym e)
+not-taken (Nodes c) h e = miss (0 ∷ 1 ∷ 2 ∷ []) 3 tt h
+
+module _ {n : ℕ} {list a : List ℕ} {at : ℕ} {r : Taken} {m : List ℕ} (taken : TakenIn n list a at r m) where
+  pub list-refused : (b : List ℕ) → N b ≡ n → (x : Refusal) → ruled x ≡ ruling (takenSaid r) → {A : Type 0} (y : A)
+      → refusedBy x ≡ answer (decide (lineRules b list)) y
+  unfolding lineRules listRuled answer
+  list-refused b nodes x e y =
+      ap (λ (u : Ruling). answer u y) (
+      e ∙ ap ruling (taken .said) ∙ ruling-answer (listRuled n list) (length list)
+      ∙ ap (λ (u : Ruling). decide (rule8 (length list) ∷ u ∷ rule10 list ∷ [])) (sym (rule9-is b list n nodes))
+      )
+
+  pub all-taken : {c : ℕ} → r ≡ Nodes c → AllNodes n list at c m
+  all-taken e = were-nodes (subst (λ (x : Taken). TakenIn n list a at x m) e taken)

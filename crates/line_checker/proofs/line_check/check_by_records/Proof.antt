@@ -1,0 +1,75 @@
+-- `line_checker::line_check::check_by_records` meets its contract: 8, 12 and 13 on the area, then the walk on the area after the test.
+-- Rests on RecordCalls.
+use mathlib.Core.Path.{ap}
+use Rattle.records.specs.Tested.{checkedSaid}
+use Rattle.tables.proofs.Usable.{still-usable}
+use Rattle.line_checker.proofs.RecordCalls.{is-bad, no-records, by-records-refused, by-records-walked, recorded-still}
+use borrow.Author.Needs.{needs}
+use Rattle.line_checker.proofs.line_check.check_by_records.Statement.{statement}
+use Rattle.line_checker.proofs.line_check.check_by_records.Tie as tie
+
+returns : tie.Need-returns
+returns c =
+    let start = c .before .before .before .before in
+    no-records (start .args .n) (start .args .l) (start .args .p) _ _ (c .if1 .taken)
+
+check-records-requires : tie.Need-check-records-requires
+check-records-requires c κs = search needs
+
+enum-told : tie.Need-enum-told
+enum-told c = search needs
+
+record-refusal-requires : tie.Need-record-refusal-requires
+record-refusal-requires c κs =
+    is-bad (c .before .before .before .check-records .result) (c .match .keys2)
+
+same-length : tie.Need-same-length
+same-length c = search needs
+
+returns-2 : tie.Need-returns-2
+returns-2 c =
+    let tested = c .before .before .before .before in
+    let asked = tested .before .before in
+    let start = asked .before .before .before .before in
+    by-records-refused (start .pre) (tested .check-records .ensures) (asked .if1 .left) (c .record-refusal .result) (c .record-refusal .ensures)
+    (is-bad (tested .check-records .result) (c .before .match .keys2))
+
+walk-requires : tie.Need-walk-requires
+walk-requires c κs =
+    let told = c .before in
+    let tested = told .before .before .before .before in
+    let start = tested .before .before .before .before .before .before in (
+      still-usable (start .pre) (tested .check-records .ensures .kept),
+      recorded-still (start .pre) (tested .check-records .ensures) (ap checkedSaid (told .enum-told .given .1)),
+    )
+
+walk-answer-requires : tie.Need-walk-answer-requires
+walk-answer-requires c κs = search needs
+
+same-length-2 : tie.Need-same-length-2
+same-length-2 c = search needs
+
+returns-3 : tie.Need-returns-3
+returns-3 c =
+    let walked = c .before .before .before in
+    let told = walked .before .before in
+    let tested = told .before .before .before .before in
+    let asked = tested .before .before in
+    let start = asked .before .before .before .before in
+    by-records-walked (start .pre) (tested .check-records .ensures) (asked .if1 .left) (ap checkedSaid (told .enum-told .given .1)) (walked .walk .ensures)
+    (c .walk-answer .ensures)
+
+pub check-by-records-spec : {M : Type 1} → statement M
+check-by-records-spec =
+    tie.close
+    (tie.spec
+    returns
+    check-records-requires
+    enum-told
+    record-refusal-requires
+    same-length
+    returns-2
+    walk-requires
+    walk-answer-requires
+    same-length-2
+    returns-3)

@@ -1,0 +1,92 @@
+// Translated from src/algorithms/convex/line_convex_checker.rs of portgraph (88172a3c8e, Apache-2.0, see NOTICE), and changed:
+// `try_extend_intervals` refuses what 01 refuses, and works in a room of its own, so that no backup is put back.
+ghost use mathlib.Core.List.{[], _∷_};
+ghost use Prim.Native.Nat.{_+_, _*_, _<_};
+ghost use Rattle.paper.specs.Area.{K};
+ghost use Rattle.paper.specs.Calls.{needed, said, wordsOf};
+ghost use Rattle.paper.specs.Records.{extend as extended, recordsIn};
+ghost use Rattle.paper.specs.Refusals.{rule9, rule11, rule12, rule13, wholeRecords};
+ghost use Rattle.tables.specs.Recorded.{Recorded, Slotted};
+ghost use Rattle.tables.specs.Usable.{Usable, scratchAt};
+ghost use Rattle.tables.specs.Answered.{AnsweredInto};
+ghost use Rattle.line_checker.specs.Said.{extendSaid};
+use super::refused::record_refusal;
+use super::room::copy_out;
+use super::room::record_room;
+use extension::Extended;
+use extension::extend;
+use records::Checked;
+use records::check_records;
+use refusals::Refusal;
+
+// What extending answers: how many records there are now, that they cannot be extended, or a refusal.
+pub enum ExtendAnswer {
+    Records(usize),
+    NotExtendable,
+    Refused(Refusal),
+}
+
+// Extends records that may be used by a known node: 11 if the records then do not fit their buffer.
+fn write_extended(
+    b: &[u8],
+    n: usize,
+    l: usize,
+    p: usize,
+    area: &[u16],
+    records: &mut [u16],
+    count: usize,
+    node: usize,
+) -> ExtendAnswer
+    requires { ⌜ Usable (now b) (now area) n l p ⌝ }
+    requires { ⌜ Recorded (now b) (now area) (now records) count ⌝ }
+    requires { ⌜ Slotted (now area) (now records) count (scratchAt n l) (scratchAt n l + (n + l)) (K (now b) (now area)) ⌝ }
+    requires { ⌜ node < n ⌝ }
+    ensures { λ r. ⌜ AnsweredInto n l p (now (area .entry)) (now (area .entry)) (extendSaid r)
+        (rule11 (wholeRecords (now (records .entry)))
+        (needed (extended (now (b .entry)) (now (area .entry)) (recordsIn (now (records .entry)) count) node)) ∷ [])
+        (said (extended (now (b .entry)) (now (area .entry)) (recordsIn (now (records .entry)) count) node))
+        (now (records .entry)) (now (records .exit))
+        (wordsOf (extended (now (b .entry)) (now (area .entry)) (recordsIn (now (records .entry)) count) node)) ⌝ }
+{
+    let mut room = record_room();
+    let found = extend(b, n, l, p, area, records, count, node, &mut room);
+    let Extended::Records(made) = found else {
+        return ExtendAnswer::NotExtendable;
+    };
+    if records.len() / 3 < made {
+        return ExtendAnswer::Refused(Refusal::TooLong(made));
+    }
+    copy_out(&room, records, 3 * made);
+    ExtendAnswer::Records(made)
+}
+
+// Extends records by a node, in their own buffer: refusals 9, 12, 13, then 11.
+pub fn extend_records(
+    b: &[u8],
+    n: usize,
+    l: usize,
+    p: usize,
+    area: &mut [u16],
+    records: &mut [u16],
+    count: usize,
+    node: usize,
+) -> ExtendAnswer
+    requires { ⌜ Usable (now b) (now area) n l p ⌝ }
+    ensures { λ r. ⌜ AnsweredInto n l p (now (area .entry)) (now (area .exit)) (extendSaid r)
+        (rule9 (now (b .entry)) (node ∷ []) ∷ rule12 (now (b .entry)) (now (area .entry)) (now (records .entry)) count
+        ∷ rule13 (now (b .entry)) (now (area .entry)) (recordsIn (now (records .entry)) count)
+        ∷ rule11 (wholeRecords (now (records .entry)))
+        (needed (extended (now (b .entry)) (now (area .entry)) (recordsIn (now (records .entry)) count) node)) ∷ [])
+        (said (extended (now (b .entry)) (now (area .entry)) (recordsIn (now (records .entry)) count) node))
+        (now (records .entry)) (now (records .exit))
+        (wordsOf (extended (now (b .entry)) (now (area .entry)) (recordsIn (now (records .entry)) count) node)) ⌝ }
+{
+    if n <= node {
+        return ExtendAnswer::Refused(Refusal::Unknown(0));
+    }
+    let checked = check_records(b, n, l, p, area, records, count);
+    let Checked::Good = checked else {
+        return ExtendAnswer::Refused(record_refusal(checked));
+    };
+    write_extended(b, n, l, p, area, records, count, node)
+}

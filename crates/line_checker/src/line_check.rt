@@ -1,0 +1,94 @@
+// Translated from src/algorithms/convex/line_convex_checker.rs of portgraph (88172a3c8e, Apache-2.0, see NOTICE), and changed:
+// `is_node_convex` and `is_convex_by_intervals` refuse what 01 refuses, and answer the walk's count.
+ghost use mathlib.Core.Path.{_≡_};
+ghost use mathlib.Core.List.{[], _∷_};
+ghost use Rattle.paper.specs.Calls.{lineRules};
+ghost use Rattle.paper.specs.Records.{recordsIn};
+ghost use Rattle.paper.specs.Refusals.{answered, rule8, rule12, rule13};
+ghost use Rattle.paper.specs.Walk.{lineCheck, walk as walkOf};
+ghost use Rattle.tables.specs.Usable.{Usable};
+ghost use Rattle.walk.specs.Walks.{walkedSaid};
+ghost use Rattle.tables.specs.Answered.{Answered};
+ghost use Rattle.line_checker.specs.Said.{lineSaid};
+use super::refused::list_refusal;
+use super::refused::record_refusal;
+use super::room::record_room;
+use intervals::Intervals;
+use intervals::get_intervals;
+use records::Checked;
+use records::check_records;
+use refusals::Refusal;
+use take_in::Taken;
+use take_in::take_in;
+use walk::turns::Walked;
+use walk::walk;
+
+// What the line check and the check by records answer: yes or no with the walk's count, or a refusal.
+pub enum LineAnswer {
+    Yes(usize),
+    No(usize),
+    Refused(Refusal),
+}
+
+// The walk's answer as the check's.
+fn walk_answer(walked: Walked) -> LineAnswer
+    ensures { λ r. ⌜ lineSaid r ≡ answered (walkedSaid walked) ⌝ }
+{
+    match walked {
+        Walked::Yes(count) => LineAnswer::Yes(count),
+        Walked::No(count) => LineAnswer::No(count),
+    }
+}
+
+// The line check of a list: refusals 8, 9, 10; no with count 0 when it is not contiguous; else the queue walk.
+pub fn check_list(
+    b: &[u8],
+    n: usize,
+    l: usize,
+    p: usize,
+    area: &mut [u16],
+    list: &[u16],
+) -> LineAnswer
+    requires { ⌜ Usable (now b) (now area) n l p ⌝ }
+    ensures { λ r. ⌜ Answered n l p (now (area .entry)) (now (area .exit)) (lineSaid r)
+        (lineRules (now (b .entry)) (now (list .entry))) (lineCheck (now (b .entry)) (now (area .entry)) (now (list .entry))) ⌝ }
+{
+    let taken = take_in(list, n, area, 3 + 6 * n + 5 * l);
+    let Taken::Nodes(count) = taken else {
+        return LineAnswer::Refused(list_refusal(taken));
+    };
+    let mut room = record_room();
+    let found = get_intervals(b, n, l, p, area, count, &mut room);
+    let Intervals::Records(made) = found else {
+        return LineAnswer::No(0);
+    };
+    let walked = walk(b, n, l, p, area, &room, made);
+    walk_answer(walked)
+}
+
+// The check by records: refusals 8, 12, 13, then the same walk.
+pub fn check_by_records(
+    b: &[u8],
+    n: usize,
+    l: usize,
+    p: usize,
+    area: &mut [u16],
+    records: &[u16],
+    count: usize,
+) -> LineAnswer
+    requires { ⌜ Usable (now b) (now area) n l p ⌝ }
+    ensures { λ r. ⌜ Answered n l p (now (area .entry)) (now (area .exit)) (lineSaid r)
+        (rule8 count ∷ rule12 (now (b .entry)) (now (area .entry)) (now (records .entry)) count
+        ∷ rule13 (now (b .entry)) (now (area .entry)) (recordsIn (now (records .entry)) count) ∷ [])
+        (walkOf (now (b .entry)) (now (area .entry)) (recordsIn (now (records .entry)) count)) ⌝ }
+{
+    if count == 0 {
+        return LineAnswer::Refused(Refusal::Empty);
+    }
+    let checked = check_records(b, n, l, p, area, records, count);
+    let Checked::Good = checked else {
+        return LineAnswer::Refused(record_refusal(checked));
+    };
+    let walked = walk(b, n, l, p, area, records, count);
+    walk_answer(walked)
+}
