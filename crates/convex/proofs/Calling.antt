@@ -1,13 +1,13 @@
 -- A call from its opening's answer: a refusal is passed up with the area as it was left, and else the tables are usable, and what the
 -- question answers on the opened area is what the call answers.
 -- Rests on refusals' Rulings, tables' Usable and accepted_theory (two areas with the same words in use).
-use Prim.Native.Nat.{ℕ, _+_, _*_, _≤_}
+use Prim.Native.Nat.{ℕ, _+_}
 use native.Mathlib.Omega.{arith}
 use mathlib.Core.Path.{_≡_, refl, sym, ap, ap₂, _∙_, subst}
 use mathlib.Core.Logic.{_≢_}
 use mathlib.Core.Bool.{Bool, not}
 use mathlib.Core.List.{List, [], _∷_, _++_}
-use lib.ListN.{length, replicate, length-replicate}
+use lib.ListN.{replicate, length-replicate}
 use lib.Seq.{sets}
 use lib.Dec.{ltb}
 use Rattle.lists.specs.Found.{placed}
@@ -16,7 +16,7 @@ use denote.Enum.Declared.{tagOf}
 use Rattle.paper.specs.Map.{N, L, P}
 use Rattle.paper.specs.Area.{Section, size, start, W, scratchCleared}
 use Rattle.paper.specs.Refusals.{Ruling, passed, refusal, Answer, answer, onRefusal, decide, refuse, rule1, rule2, rule3, rule45, rule7}
-use Rattle.paper.specs.Calls.{Left, LeftWith, untouched, opening, areaAfter, call, callInto}
+use Rattle.paper.specs.Calls.{untouched, opening, areaAfter, call, callInto}
 use Rattle.paper.proofs.Area.{W-sum}
 use Rattle.lines_theory.proofs.Written.{start-is}
 use Rattle.accepted_theory.specs.SameOutcomes.{SameWritten, SameOutcomes}
@@ -24,11 +24,11 @@ use Rattle.accepted_theory.proofs.InUse.{accepted-in-use}
 use Rattle.accepted_theory.proofs.Calls.{same-outcomes}
 use Rattle.accepted_theory.proofs.Refusals.{tables-passed}
 use Rattle.refusals.specs.Said.{ruling}
-use Rattle.refusals.proofs.Rulings.{no-refusal, ruling-answer, refused-so, head-passed, both-passed, roomy}
+use Rattle.refusals.proofs.Rulings.{no-refusal, ruling-answer, refused-so, head-passed, both-passed, first-decides, then-decides, roomy}
 use Rattle.stepmap.specs.Formed.{ReadWell}
 use Rattle.stepmap.proofs.Answers.{read-well}
-use Rattle.toposort.proofs.Refusing.{passed-said, passed-kept}
-use Rattle.opening.specs.Opened.{OpenLeft, openedSaid}
+use Rattle.toposort.proofs.Refusing.{passed-said}
+use Rattle.opening.specs.Opened.{HasScratch, OpenLeft, openedSaid, scratchZeroed}
 use Rattle.opening.specs.declared.Opened.{Opened}
 use Rattle.opening.specs.declared.Opened.the-variants.{Malformed, TooLarge, NoRoom, Missing, Second, NotAccepted, Ready}
 use Rattle.opening.proofs.Opened.{the-type}
@@ -48,19 +48,6 @@ is-refusal (Second k) h e = no-refusal (sym e)
 is-refusal NotAccepted h e = no-refusal (sym e)
 is-refusal (Ready n l p) h e = miss (0 ∷ 1 ∷ 2 ∷ 3 ∷ 4 ∷ 5 ∷ []) 6 tt h
 
--- the rules asked first decide, if one of them refuses; and else those asked then
-first-decides : (us vs : List Ruling) → decide us ≢ passed → decide (us ++ vs) ≡ decide us
-unfolding decide
-first-decides [] vs ne = absurd (ne refl)
-first-decides (passed ∷ us) vs ne = first-decides us vs ne
-first-decides (refusal n v ∷ us) vs ne = refl
-
-then-decides : (us vs : List Ruling) → passed ≡ decide us → decide (us ++ vs) ≡ decide vs
-unfolding decide
-then-decides [] vs e = refl
-then-decides (passed ∷ us) vs e = then-decides us vs e
-then-decides (refusal n v ∷ us) vs e = absurd (no-refusal e)
-
 module _ {b a : List ℕ} {o : Opened} {m : List ℕ} (known : OpenLeft b a o m) where
   -- the rule that decides
   ruled-so : ruling (openedSaid o) ≡ decide (opening b a)
@@ -68,15 +55,16 @@ module _ {b a : List ℕ} {o : Opened} {m : List ℕ} (known : OpenLeft b a o m)
 
   -- ---- a refusal at opening is the call's, whatever it would else ask and answer
 
-  module _ (out : ruling (openedSaid o) ≢ passed) {A : Type 0} (said : Answer A) (e : ruling said ≡ ruling (openedSaid o)) (rules : List Ruling) (x : A) where
-    refuses : decide (opening b a) ≢ passed
-    refuses f = out (ruled-so ∙ f)
-
+  module _ (out : ruling (openedSaid o) ≢ passed) (rules : List Ruling) where
     decided : decide (opening b a ++ rules) ≡ decide (opening b a)
-    decided = first-decides (opening b a) rules refuses
+    decided = first-decides (opening b a) rules (λ f. out (ruled-so ∙ f))
 
+    pub refuses : decide (opening b a ++ rules) ≢ passed
+    refuses f = out (ruled-so ∙ sym decided ∙ f)
+
+  module _ (out : ruling (openedSaid o) ≢ passed) {A : Type 0} (said : Answer A) (e : ruling said ≡ ruling (openedSaid o)) (rules : List Ruling) (x : A) where
     said-so : said ≡ answer (decide (opening b a ++ rules)) x
-    said-so = refused-so said (e ∙ ruled-so ∙ sym decided) (λ f. refuses (sym decided ∙ f)) x
+    said-so = refused-so said (e ∙ ruled-so ∙ sym (decided out rules)) (refuses out rules) x
 
     pub refused-call : record { answer = said; area = m } ≡ call b a rules x
     unfolding call
@@ -86,7 +74,7 @@ module _ {b a : List ℕ} {o : Opened} {m : List ℕ} (known : OpenLeft b a o m)
     unfolding callInto onRefusal
     refused-into buffer result =
         ap₂ (λ (y : Answer A) (z : List ℕ). record { answer = y; area = z; buffer = buffer }) said-so (known .left)
-        ∙ ap (λ (z : List ℕ). record { answer = answer (decide (opening b a ++ rules)) x; area = areaAfter b a; buffer = z }) (stays (decide (opening b a ++ rules)) (λ f. refuses (sym decided ∙ f)))
+        ∙ ap (λ (z : List ℕ). record { answer = answer (decide (opening b a ++ rules)) x; area = areaAfter b a; buffer = z }) (stays (decide (opening b a ++ rules)) (refuses out rules))
       where
         stays : (u : Ruling) → u ≢ passed → buffer ≡ onRefusal u buffer (sets buffer 0 result)
         stays passed ne = absurd (ne refl)
@@ -95,7 +83,7 @@ module _ {b a : List ℕ} {o : Opened} {m : List ℕ} (known : OpenLeft b a o m)
   -- ---- and else the tables are usable
 
   module _ {n l p : ℕ} (ready : o ≡ Ready n l p) where
-    all-passed : passed ≡ decide (opening b a)
+    pub all-passed : passed ≡ decide (opening b a)
     unfolding ruling
     all-passed = ap (λ (o : Opened). ruling (openedSaid o)) (sym ready) ∙ ruled-so
 
@@ -113,7 +101,7 @@ module _ {b a : List ℕ} {o : Opened} {m : List ℕ} (known : OpenLeft b a o m)
     read : ReadWell b n l p
     read = read-well b n l p (ap openedSaid (sym ready) ∙ known .said ∙ sym (passed-said all-passed (N b, L b, P b)) ∙ passed-said (first-three .0) (N b, L b, P b))
 
-    usable-before : Usable b a n l p
+    pub usable-before : Usable b a n l p
     usable-before =
         record {
           read = read;
@@ -143,6 +131,16 @@ module _ {b a : List ℕ} {o : Opened} {m : List ℕ} (known : OpenLeft b a o m)
     pub usable : Usable b m n l p
     usable = still-usable usable-before opened-kept
 
+    -- .. and stay so, with room for their scratch
+    pub has-scratch : {z : List ℕ} → Scratched n l p m z → HasScratch z n l p
+    has-scratch kept =
+        record {
+          few-nodes = usable .read .few-nodes;
+          few-links = usable .read .few-links;
+          few-ports = usable .read .few-ports;
+          room = omega (arith, usable .room, kept .long);
+        }
+
     pub same-outcomes-so : SameOutcomes b a m
     same-outcomes-so =
         same-outcomes (in-use-still usable-before opened-kept) (wordy usable-before) (wordy usable)
@@ -156,8 +154,8 @@ module _ {b a : List ℕ} {o : Opened} {m : List ℕ} (known : OpenLeft b a o m)
         (sym (opened-kept .long))
         (accepted-in-use (in-use-still usable-before opened-kept) (wordy usable-before) (wordy usable))
 
-    left-cleared : {z exit : List ℕ} → Scratched n l p m z → exit ≡ sets z (scratchAt n l) (replicate (scratchSize n l p) 0) → exit ≡ areaAfter b a
-    unfolding areaAfter onRefusal
+    left-cleared : {z exit : List ℕ} → Scratched n l p m z → exit ≡ scratchZeroed z n l p → exit ≡ areaAfter b a
+    unfolding areaAfter onRefusal scratchZeroed
     left-cleared kept filled =
         filled ∙ within-filled (within-both opened-kept kept) (omega (arith, usable-before .room)) 0 ∙ cleared-is a
         ∙ ap (λ (u : Ruling). onRefusal u a (scratchCleared b a)) (parts .0)
@@ -168,14 +166,14 @@ module _ {b a : List ℕ} {o : Opened} {m : List ℕ} (known : OpenLeft b a o m)
     then-said rules x = ap (λ (u : Ruling). answer u x) (sym (then-decides (opening b m) rules passed-still))
 
     pub answered-call : {A : Type 0} {said : Answer A} {rules : List Ruling} {x : A} {z exit : List ℕ} → Answered n l p m z said rules x
-        → exit ≡ sets z (scratchAt n l) (replicate (scratchSize n l p) 0) → (others : List Ruling) (y : A)
+        → exit ≡ scratchZeroed z n l p → (others : List Ruling) (y : A)
         → answer (decide (opening b a ++ others)) y ≡ answer (decide (opening b m ++ rules)) x → record { answer = said; area = exit } ≡ call b a others y
     unfolding call
     answered-call {A} {said} {rules} {x} asked filled others y alike =
         ap₂ (λ (u : Answer A) (w : List ℕ). record { answer = u; area = w }) (asked .says ∙ then-said rules x ∙ sym alike) (left-cleared (asked .kept) filled)
 
     pub answered-into : {A : Type 0} {said : Answer A} {rules : List Ruling} {x : A} {z exit buffer after result : List ℕ}
-        → AnsweredInto n l p m z said rules x buffer after result → exit ≡ sets z (scratchAt n l) (replicate (scratchSize n l p) 0)
+        → AnsweredInto n l p m z said rules x buffer after result → exit ≡ scratchZeroed z n l p
         → (others : List Ruling) (y : A) (results : List ℕ)
         → SameWritten (callInto b a others y buffer results) (callInto b m rules x buffer result)
         → record { answer = said; area = exit; buffer = after } ≡ callInto b a others y buffer results
@@ -184,5 +182,13 @@ module _ {b a : List ℕ} {o : Opened} {m : List ℕ} (known : OpenLeft b a o m)
         ap₂ (λ (u : Answer A) (w : List ℕ). record { answer = u; area = w; buffer = after }) (asked .says ∙ then-said rules x ∙ sym (alike .0))
         (left-cleared (asked .kept) filled)
         ∙ ap (λ (w : List ℕ). record { answer = answer (decide (opening b a ++ others)) y; area = areaAfter b a; buffer = w }) (
-          asked .written ∙ ap (λ (u : Ruling). onRefusal u buffer (sets buffer 0 result)) (sym (then-decides (opening b m) rules passed-still)) ∙ sym (alike .1)
+        asked .written ∙ ap (λ (u : Ruling). onRefusal u buffer (sets buffer 0 result)) (sym (then-decides (opening b m) rules passed-still)) ∙ sym (alike .1)
         )
+
+    -- a question that writes nothing
+    pub answered-still : {A : Type 0} (rules : List Ruling) (x : A) {said : Answer A} → said ≡ answer (decide rules) x
+        → record { answer = said; area = m } ≡ call b a rules x
+    unfolding call
+    answered-still {A} rules x e =
+        ap₂ (λ (u : Answer A) (w : List ℕ). record { answer = u; area = w })
+        (e ∙ ap (λ (u : Ruling). answer u x) (sym (then-decides (opening b a) rules all-passed))) (known .left)

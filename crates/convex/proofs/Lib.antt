@@ -1,4 +1,7 @@
 pub mod Answers
 pub mod Calling
+pub mod LineCalls
+pub mod TopoCalls
+pub mod Promises
 pub mod FromOrder
 pub mod Preparing

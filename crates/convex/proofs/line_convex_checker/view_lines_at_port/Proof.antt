@@ -1,0 +1,81 @@
+-- `convex::line_convex_checker::view_lines_at_port` meets its contract: empty on a refusal, else the lines as a part of the area.
+-- Rests on Calling and LineCalls.
+use Rattle.convex.proofs.Calling.{is-refusal}
+use Rattle.convex.proofs.LineCalls.{view-refused, view-usable, view-unknown, view-answered}
+use borrow.Author.Needs.{needs}
+use Rattle.convex.proofs.line_convex_checker.view_lines_at_port.Statement.{statement}
+use Rattle.convex.proofs.line_convex_checker.view_lines_at_port.Tie as tie
+
+open-shared-requires : tie.Need-open-shared-requires
+open-shared-requires c κs = search needs
+
+enum-known-opened : tie.Need-enum-known-opened
+enum-known-opened c = search needs
+
+sub-result : tie.Need-sub-result
+sub-result c = search needs
+
+part-result-start : tie.Need-part-result-start
+part-result-start c = search needs
+
+part-result-end : tie.Need-part-result-end
+part-result-end c = search needs
+
+returns : tie.Need-returns
+returns c =
+    let opened = c .before .before in
+    let start = opened .before .before .before in
+    let said = opened .open-shared .ensures in
+    view-refused (start .args .map .now) (start .args .area .now) (opened .open-shared .result) said _
+    (is-refusal (opened .open-shared .result) (c .before .match .keys2))
+
+sub-result-2 : tie.Need-sub-result-2
+sub-result-2 c = search needs
+
+part-result-start-2 : tie.Need-part-result-start-2
+part-result-start-2 c = search needs
+
+part-result-end-2 : tie.Need-part-result-end-2
+part-result-end-2 c = search needs
+
+returns-2 : tie.Need-returns-2
+returns-2 c =
+    let told = c .before .before in
+    let opened = told .before .before .before in
+    let start = opened .before .before .before in
+    let said = opened .open-shared .ensures in
+    view-unknown (start .args .map .now) (start .args .area .now) (opened .open-shared .result) said _ (told .before .opened .given .1) (c .before .if1 .taken)
+
+lines-at-port-requires : tie.Need-lines-at-port-requires
+lines-at-port-requires c κs =
+    let told = c .before in
+    let opened = told .before .before .before in
+    let start = opened .before .before .before in
+    let said = opened .open-shared .ensures in
+    (view-usable (start .args .map .now) (start .args .area .now) (opened .open-shared .result) said (start .args .port) (told .before .opened .given .1), search needs)
+
+returns-3 : tie.Need-returns-3
+returns-3 c =
+    let told = c .before .before in
+    let opened = told .before .before .before in
+    let start = opened .before .before .before in
+    let said = opened .open-shared .ensures in
+    view-answered (start .args .map .now) (start .args .area .now) (opened .open-shared .result) said _ (told .before .opened .given .1) (c .before .if1 .left)
+    (c .lines-at-port .ensures)
+
+pub view-lines-at-port-spec : {M : Type 1} → statement M
+view-lines-at-port-spec =
+    tie.close
+    (tie.spec
+    open-shared-requires
+    enum-known-opened
+    sub-result
+    part-result-start
+    part-result-end
+    returns
+    sub-result-2
+    part-result-start-2
+    part-result-end-2
+    returns-2
+    lines-at-port-requires
+    returns-3)
