@@ -1,0 +1,42 @@
+-- `text::printer::put_refused` meets its contract: the word with the number, and then a space with the place; there is room for both.
+-- Rests on Printed.
+use native.Mathlib.Omega.{arith}
+use borrow.Author.Needs.{needs}
+use Rattle.lists.specs.Ascii.{ascii}
+use Rattle.paper.specs.Text.{decimal, showRefused}
+use Rattle.text.proofs.Printed.{put-both, decimal-short}
+use Rattle.text.proofs.printer.put_refused.Statement.{statement}
+use Rattle.text.proofs.printer.put_refused.Tie as tie
+
+slice-aggregate-put-numbered : tie.Need-slice-aggregate-put-numbered
+slice-aggregate-put-numbered c = search needs
+
+put-numbered-requires : tie.Need-put-numbered-requires
+put-numbered-requires c κs = search needs
+
+slice-aggregate-put-numbered-2 : tie.Need-slice-aggregate-put-numbered-2
+slice-aggregate-put-numbered-2 c = search needs
+
+put-numbered-requires-2 : tie.Need-put-numbered-requires-2
+put-numbered-requires-2 c κs = omega (arith, decimal-short (c .before .before .before .before .before .before .before .before .args .number))
+
+same-length : tie.Need-same-length
+same-length c = search needs
+
+returns : tie.Need-returns
+unfolding showRefused
+returns c =
+    let first = c .before .before .before .before .before .before .before in
+    put-both (ascii " ") (decimal (first .before .before .before .before .args .place)) (first .put-numbered .ensures)
+    (c .before .before .put-numbered2 .ensures)
+
+pub put-refused-spec : {M : Type 1} → statement M
+put-refused-spec =
+    tie.close
+    (tie.spec
+    slice-aggregate-put-numbered
+    put-numbered-requires
+    slice-aggregate-put-numbered-2
+    put-numbered-requires-2
+    same-length
+    returns)
