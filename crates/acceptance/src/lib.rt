@@ -1,16 +1,16 @@
 // The acceptance test of the tables that stand in a lent area: refusal 7.
+pub mod entries;
 pub mod lines;
 pub mod order;
-pub mod tables;
 
 ghost use mathlib.Core.Path.{_≡_};
 ghost use Rattle.paper.specs.Accepted.{accepted as acceptedTables};
 ghost use Rattle.acceptance.specs.Testable.{Testable};
 use agreement::linked::links_agree;
 use agreement::listed::lists_agree;
+use entries::tables_known;
 use lines::lines_rise;
 use order::order_forward;
-use tables::tables_known;
 use words::field::wide;
 
 // Whether the tables in the area are accepted for a map of n nodes and l links; any words may stand there. It reads what is in use alone.

@@ -1,4 +1,4 @@
--- `acceptance::tables::entries_below` meets its contract: the entries passed are below the bound, and the first that is not decides.
+-- `acceptance::entries::entries_below` meets its contract: the entries passed are below the bound, and the first that is not decides.
 -- Rests on Starts and lists.AllAny.
 use Prim.Native.Nat.{ℕ, _+_, _-_, _≤_, _<_}
 use native.Mathlib.Omega.{arith}
@@ -10,8 +10,8 @@ use lib.Dec.{ltb}
 use lib.ListN.{getD}
 use Rattle.lists.proofs.AllAny.{all-through}
 use Rattle.acceptance.proofs.Starts.{entry-high, entry-low}
-use Rattle.acceptance.proofs.tables.entries_below.Statement.{statement}
-use Rattle.acceptance.proofs.tables.entries_below.Tie as tie
+use Rattle.acceptance.proofs.entries.entries_below.Statement.{statement}
+use Rattle.acceptance.proofs.entries.entries_below.Tie as tie
 
 abbrev Inv-loop : tie.InvT-loop
 Inv-loop area at count bound i₀ i = (i ≤ count) × ((j : ℕ) → j < i → ltb (getD area (at + j) 0) bound ≡ true)

@@ -1,11 +1,11 @@
--- `acceptance::tables::tables_known` meets its contract: each test says one sentence, and together they say all four.
+-- `acceptance::entries::tables_known` meets its contract: each test says one sentence, and together they say all four.
 -- Rests on Known.
 use Prim.Native.Nat.{_+_}
 use borrow.Author.Needs.{needs}
 use Rattle.agreement.specs.Tables.{linesAt, nodesAt, nodeStart, lineStart}
 use Rattle.acceptance.proofs.Known.{starts-told, entries-told, node-starts-bad, line-starts-bad, lines-bad, all-known}
-use Rattle.acceptance.proofs.tables.tables_known.Statement.{statement}
-use Rattle.acceptance.proofs.tables.tables_known.Tie as tie
+use Rattle.acceptance.proofs.entries.tables_known.Statement.{statement}
+use Rattle.acceptance.proofs.entries.tables_known.Tie as tie
 
 mul-starts-well : tie.Need-mul-starts-well
 mul-starts-well c = search needs

@@ -1,4 +1,4 @@
--- `acceptance::tables::starts_well` meets its contract: the starts passed rise, and the first that does not decides.
+-- `acceptance::entries::starts_well` meets its contract: the starts passed rise, and the first that does not decides.
 -- Rests on Starts.
 use Prim.Native.Nat.{ℕ, suc, _+_, _-_, _≤_, _<_}
 use native.Mathlib.Omega.{arith}
@@ -9,8 +9,8 @@ use mathlib.Core.Bool.{true}
 use lib.Dec.{ltb}
 use lib.ListN.{getD}
 use Rattle.acceptance.proofs.Starts.{starts-late, starts-fall, starts-rise, starts-end}
-use Rattle.acceptance.proofs.tables.starts_well.Statement.{statement}
-use Rattle.acceptance.proofs.tables.starts_well.Tie as tie
+use Rattle.acceptance.proofs.entries.starts_well.Statement.{statement}
+use Rattle.acceptance.proofs.entries.starts_well.Tie as tie
 
 abbrev Inv-loop : tie.InvT-loop
 Inv-loop area at count end i₀ i = (i ≤ count) × ((j : ℕ) → j < i → ltb (getD area (at + j) 0) (getD area (at + suc j) 0) ≡ true)
