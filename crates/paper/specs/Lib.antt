@@ -11,6 +11,7 @@ pub mod Ports
 pub mod Refusals
 pub mod Calls
 pub mod Words
+pub mod Exports
 pub mod Lookup
 pub mod Plain
 pub mod Promise

@@ -1,0 +1,81 @@
+-- The exported functions, "on numbers and byte slices": each is a call of Calls whose words cross as bytes. A number says the case, and the
+-- values go to parameters of their own. Rests on Calls and Words.
+use Prim.Native.Nat.{ℕ, _+_}
+use mathlib.Core.List.{List, [], _∷_, _++_}
+use lib.Seq.{sets}
+use Rattle.paper.specs.Map.{portNode}
+use Rattle.paper.specs.Area.{Section, start, wordOf}
+use Rattle.paper.specs.Intervals.{Reply, Yes, No}
+use Rattle.paper.specs.Ports.{firstLine, lineCountAt}
+use Rattle.paper.specs.Refusals.{Answer, refused, answered, answer, decide, rule14}
+use Rattle.paper.specs.Calls.{Left, LeftWith, Written, wrote, nothing, opening}
+use Rattle.paper.specs.Words.{putWords}
+
+-- ---- an answer in numbers: 1 is an answer or yes; 2 is no, not contiguous or not extendable; with its values
+
+unfoldable pub inCount : ℕ → ℕ × List ℕ
+inCount n = (1, n ∷ [])
+
+unfoldable pub inLineReply : Reply × ℕ → ℕ × List ℕ
+inLineReply (Yes, n) = (1, n ∷ [])
+inLineReply (No, n) = (2, n ∷ [])
+
+unfoldable pub inReply : Reply → ℕ × List ℕ
+inReply Yes = (1, [])
+inReply No = (2, [])
+
+unfoldable pub inWritten : Written → ℕ × List ℕ
+inWritten (wrote n) = (1, n ∷ [])
+inWritten nothing = (2, [])
+
+unfoldable pub inPair : ℕ × ℕ → ℕ × List ℕ
+inPair (m, n) = (1, m ∷ n ∷ [])
+
+-- ---- what an export returns, and what its parameters for values, number and place hold then
+
+pub record Told : Type 0 where
+  pub case : ℕ
+  pub values : List ℕ
+  pub number : ℕ
+  pub place : ℕ
+
+module _ {A : Type 0} where
+  -- 3 is refused, with number and place; what a case does not have stays as it was
+  unfoldable pub tell : (A → ℕ × List ℕ) → Answer A → List ℕ → ℕ → ℕ → Told
+  tell numbers (refused n p) values number place = record { case = 3; values = values; number = n; place = p }
+  tell numbers (answered x) values number place =
+      record { case = numbers x .0; values = sets values 0 (numbers x .1); number = number; place = place }
+
+-- ---- .. and what stands in the lent bytes: the words that the call leaves are put back
+
+pub record Export : Type 0 where
+  pub told : Told
+  pub area : List ℕ
+
+pub record ExportWith : Type 0 where
+  pub told : Told
+  pub area : List ℕ
+  pub buffer : List ℕ
+
+module _ {A : Type 0} where
+  unfoldable pub export : (A → ℕ × List ℕ) → List ℕ → ℕ → ℕ → List ℕ → Left A → Export
+  export numbers values number place area left =
+      record { told = tell numbers (left .answer) values number place; area = putWords area (left .area) }
+
+  unfoldable pub exportWith : (A → ℕ × List ℕ) → List ℕ → ℕ → ℕ → List ℕ → List ℕ → LeftWith A → ExportWith
+  exportWith numbers values number place area buffer left =
+      record {
+        told = tell numbers (left .answer) values number place;
+        area = putWords area (left .area);
+        buffer = putWords buffer (left .buffer);
+      }
+
+-- ---- the view of a port's lines: "as a part of the lent area"
+
+-- the word of the area that the part starts at
+unfoldable pub viewStart : List ℕ → List ℕ → ℕ → ℕ
+viewStart b a p = start b Section.linesOfNodes + (wordOf b a Section.nodeStarts (portNode b p) + firstLine b p)
+
+-- that word, and how many there are
+unfoldable pub viewAt : List ℕ → List ℕ → ℕ → Answer (ℕ × ℕ)
+viewAt b a p = answer (decide (opening b a ++ (rule14 b (p ∷ []) ∷ []))) (viewStart b a p, lineCountAt b p)
