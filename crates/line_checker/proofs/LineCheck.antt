@@ -1,5 +1,5 @@
--- The line check put together: a list taken in, its intervals on that area, and the walk on the area after it, answer as on the area
--- that the question began with.
+-- The line check put together: the intervals of the nodes in the scratch, and the walk on the area after them, answer as on the area with
+-- the list; and that answers as the area that the question began with, whether the list was taken in from words or from bytes.
 -- Rests on Records, records_theory (intervals pass 12) and accepted_theory (two areas with the same tables).
 use Prim.Native.Nat.{ℕ, _*_, _≤_, _<_}
 use native.Mathlib.Omega.{arith}
@@ -11,21 +11,22 @@ use denote.Enum.Declared.{tagOf}
 use lib.ListN.{length, getD, take}
 use Rattle.lists.specs.Bounds.{Below}
 use Rattle.lists.specs.Lists.{Distinct}
-use Rattle.lists.proofs.Sections.{part, getD-part}
+use Rattle.lists.proofs.Sections.{part, length-part, getD-part}
 use Rattle.paper.specs.Map.{N}
 use Rattle.paper.specs.Intervals.{Reply, No, Records, intervals}
 use Rattle.paper.specs.Walk.{walk, walkOn, lineCheck}
 use Rattle.paper.specs.Records.{recordsIn, wordsOfRecords}
-use Rattle.paper.specs.Refusals.{Ruling, passed, answered, answer, decide, rule8, rule9, rule10, rule12}
-use Rattle.paper.specs.Calls.{lineRules, wordsOf, said as saidOf}
+use Rattle.paper.specs.Refusals.{Ruling, passed, Answer, answered, answer, decide, rule8, rule9, rule10, rule12}
+use Rattle.paper.specs.Calls.{lineRules, wordsOf}
 use Rattle.order_theory.proofs.Refusals.{sound}
 use Rattle.accepted_theory.specs.Every.{Every}
 use Rattle.accepted_theory.specs.SameTables.{KnownNode, KnownRecord, KnownRecords}
 use Rattle.accepted_theory.proofs.Every.{every-below}
 use Rattle.accepted_theory.proofs.Intervals.{intervals-same, intervals-known}
-use Rattle.accepted_theory.proofs.Walk.{walk-same}
+use Rattle.accepted_theory.proofs.Walk.{walk-same, lineCheck-same}
 use Rattle.records_theory.proofs.Passing.{intervals-pass-12}
 use Rattle.records_theory.proofs.Reading.{length-words}
+use Rattle.tables.specs.Answered.{Answered}
 use Rattle.tables.specs.Within.{Within}
 use Rattle.tables.specs.Usable.{Usable, Scratched, scratchAt, scratchSize}
 use Rattle.tables.specs.Recorded.{Recorded}
@@ -34,6 +35,7 @@ use Rattle.tables.proofs.Usable.{roomy, tables-still}
 use Rattle.refusals.specs.Said.{ruled, refusedBy, ruling}
 use Rattle.refusals.specs.declared.Refusal.{Refusal}
 use Rattle.refusals.proofs.Rulings.{no-refusal, ruling-answer}
+use Rattle.take_in.specs.Taking.{Known}
 use Rattle.take_in.specs.Said.{TakenIn, takenSaid, listRuled}
 use Rattle.take_in.specs.declared.Taken.{Taken}
 use Rattle.take_in.specs.declared.Taken.the-variants.{Empty, Unknown, Repeated, Nodes}
@@ -41,10 +43,86 @@ use Rattle.take_in.proofs.Taken.{the-type}
 use Rattle.take_in.proofs.Answers.{AllNodes, were-nodes}
 use Rattle.take_in.proofs.Passing.{rule9-is, known-below}
 use Rattle.intervals.specs.Holds.{Listed}
-use Rattle.intervals.specs.Answer.{Collected, intervalsSaid}
+use Rattle.intervals.specs.Answer.{Collected, intervalsSaid, listIn}
 use Rattle.intervals.specs.declared.Intervals.{Intervals}
 use Rattle.intervals.specs.declared.Intervals.the-variants.{Records as Made, NotContiguous}
+use Rattle.walk.specs.Walks.{Walks, walkedSaid}
+use Rattle.walk.specs.declared.turns.Walked.{Walked}
 use Rattle.line_checker.proofs.Records.{Wrote, wrote-some, wrote-none, read-first, begun-long, whole-room, good-still}
+
+-- a list of nodes of n is a list of the map's nodes
+nodes-below : {b a : List ℕ} {n l p : ℕ} → Usable b a n l p → {list : List ℕ} → Known n list → Below (N b) list
+nodes-below usable {list} known = subst (λ (k : ℕ). Below k list) (sym (usable .read .nodes)) (known-below known)
+
+-- ---- the nodes in the scratch
+
+module _ {b a : List ℕ} {n l p : ℕ} (usable : Usable b a n l p) {c : ℕ} (there : Listed a (scratchAt n l) c n) where
+  known : Known n (listIn a n l c)
+  known =
+      record {
+        entry = λ i h.
+            let inside : i < c = omega (arith, length-part a (scratchAt n l) c (omega (arith, there .few, usable .room))) in
+            subst (λ (x : ℕ). x < n) (sym (getD-part a (scratchAt n l) c i 0 inside)) (there .known i inside);
+      }
+
+  below : Below (N b) (listIn a n l c)
+  below = nodes-below usable known
+
+  module _ {r : Intervals} {rs words o : List ℕ} (got : Collected b a n l p c rs r words o) where
+    -- "no with count 0 when not contiguous"
+    pub gap-answered : r ≡ NotContiguous → Answered n l p a o (answered (No, 0)) [] (lineCheck b a (listIn a n l c))
+    unfolding lineCheck walkOn answer decide
+    gap-answered e =
+        record {
+          says = ap answered (ap (walkOn b a) (sym (wrote-none (intervals b a (listIn a n l c)) (ap intervalsSaid (sym e) ∙ got .says))));
+          kept = got .kept;
+        }
+
+    module _ {made : ℕ} (e : r ≡ Made made) where
+      held : Wrote (intervals b a (listIn a n l c)) made
+      held = wrote-some (intervals b a (listIn a n l c)) made (ap intervalsSaid (sym e) ∙ got .says)
+
+      known-records : Every (KnownRecord b a) (held .list)
+      known-records =
+          subst (KnownRecords b a) (held .is)
+          (intervals-known (tables-still usable (got .kept)) (listIn a n l c) (every-below (N b) (listIn a n l c) below))
+
+      -- the words begin with the records
+      begins : take (length (wordsOfRecords (held .list))) words ≡ wordsOfRecords (held .list)
+      unfolding wordsOf
+      begins = subst (λ (found : Records). take (length (wordsOf found)) words ≡ wordsOf found) (held .is) (got .written)
+
+      fits : 3 * made ≤ length words
+      fits = omega (arith, begun-long words (wordsOfRecords (held .list)) begins, length-words (held .list), held .many)
+
+      reads : recordsIn words made ≡ held .list
+      reads = ap (recordsIn words) (held .many) ∙ read-first words (held .list) (omega (arith, whole-room words made fits, held .many)) begins
+
+      pass-12 : rule12 b a words made ≡ passed
+      pass-12 =
+          ap (rule12 b a words) (held .many)
+          ∙ intervals-pass-12 (usable .tables) (roomy usable) (listIn a n l c) below (held .is) words (ap (recordsIn words) (sym (held .many)) ∙ reads)
+          (omega (arith, whole-room words made fits, held .many))
+
+      pub recorded : Recorded b o words made
+      recorded = good-still (tables-still usable (got .kept)) words made fits pass-12
+
+      pub walk-answered : {q : List ℕ} {w : Walked} → Walks b o words made n l p w q → {y : Answer (Reply × ℕ)} → y ≡ answered (walkedSaid w)
+          → Answered n l p a q y [] (lineCheck b a (listIn a n l c))
+      unfolding lineCheck walkOn answer decide
+      walk-answered walked f =
+          record {
+            says =
+                f
+                ∙ ap answered (
+                walked .said ∙ ap (walk b o) reads
+                ∙ sym (walk-same (tables-still usable (got .kept)) (sound b (usable .links)) (held .list) known-records)
+                ∙ ap (walkOn b a) (sym (held .is))
+                );
+            kept = within-both (got .kept) (walked .kept);
+          }
+
+-- ---- a list that was taken in
 
 -- what taking in a list writes is in the scratch
 pub taken-kept : (n l p : ℕ) {a m : List ℕ} → Within (scratchAt n l) (2 * n) a m → Scratched n l p a m
@@ -52,14 +130,11 @@ taken-kept n l p kept = within-wider kept (scratchAt n l) (scratchSize n l p) (o
 
 module _ {b a : List ℕ} {n l p : ℕ} (usable : Usable b a n l p) {list : List ℕ} {c : ℕ} {m : List ℕ} (nodes : AllNodes n list (scratchAt n l) c m)
     (kept : Scratched n l p a m) where
-  below : Below (N b) list
-  below = subst (λ (k : ℕ). Below k list) (sym (usable .read .nodes)) (known-below (nodes .known))
-
   every : Every (KnownNode b) list
-  every = every-below (N b) list below
+  every = every-below (N b) list (nodes-below usable (nodes .known))
 
   -- 8, 9 and 10 pass
-  pub list-passed : passed ≡ decide (lineRules b list)
+  list-passed : passed ≡ decide (lineRules b list)
   unfolding lineRules decide
   list-passed =
       sym (
@@ -82,55 +157,18 @@ module _ {b a : List ℕ} {n l p : ℕ} (usable : Usable b a n l p) {list : List
   pub found-same : intervals b m (part m (scratchAt n l) c) ≡ intervals b a list
   found-same = ap (intervals b m) (nodes .stands) ∙ sym (intervals-same (tables-still usable kept) list every)
 
-  -- the answer, once all rules passed
-  answered-so : {x : Reply × ℕ} → x ≡ lineCheck b a list → answered x ≡ answer (decide (lineRules b list)) (lineCheck b a list)
-  unfolding answer
-  answered-so e = ap answered e ∙ ap (λ (r : Ruling). answer r (lineCheck b a list)) list-passed
-
-  module _ {r : Intervals} {rs words o : List ℕ} (got : Collected b m n l p c rs r words o) where
-    -- "no with count 0 when not contiguous"
-    pub gap-said : r ≡ NotContiguous → answered (No, 0) ≡ answer (decide (lineRules b list)) (lineCheck b a list)
-    unfolding lineCheck walkOn
-    gap-said e =
-        answered-so (ap (walkOn b a) (sym (wrote-none (intervals b a list) (ap intervalsSaid (sym e) ∙ got .says ∙ ap saidOf found-same))))
-
-    module _ {made : ℕ} (e : r ≡ Made made) where
-      held : Wrote (intervals b a list) made
-      held = wrote-some (intervals b a list) made (ap intervalsSaid (sym e) ∙ got .says ∙ ap saidOf found-same)
-
-      known-records : Every (KnownRecord b a) (held .list)
-      known-records = subst (KnownRecords b a) (held .is) (intervals-known (tables-still usable kept) list every)
-
-      -- the words begin with the records
-      begins : take (length (wordsOfRecords (held .list))) words ≡ wordsOfRecords (held .list)
-      unfolding wordsOf
-      begins = subst (λ (found : Records). take (length (wordsOf found)) words ≡ wordsOf found) (found-same ∙ held .is) (got .written)
-
-      fits : 3 * made ≤ length words
-      fits = omega (arith, begun-long words (wordsOfRecords (held .list)) begins, length-words (held .list), held .many)
-
-      reads : recordsIn words made ≡ held .list
-      reads = ap (recordsIn words) (held .many) ∙ read-first words (held .list) (omega (arith, whole-room words made fits, held .many)) begins
-
-      both : Scratched n l p a o
-      both = within-both kept (got .kept)
-
-      pass-12 : rule12 b a words made ≡ passed
-      pass-12 =
-          ap (rule12 b a words) (held .many)
-          ∙ intervals-pass-12 (usable .tables) (roomy usable) list below (held .is) words (ap (recordsIn words) (sym (held .many)) ∙ reads)
-          (omega (arith, whole-room words made fits, held .many))
-
-      pub recorded : Recorded b o words made
-      recorded = good-still (tables-still usable both) words made fits pass-12
-
-      pub walk-said : {x : Reply × ℕ} → x ≡ walk b o (recordsIn words made) → answered x ≡ answer (decide (lineRules b list)) (lineCheck b a list)
-      unfolding lineCheck walkOn
-      walk-said f =
-          answered-so (
-          f ∙ ap (walk b o) reads ∙ sym (walk-same (tables-still usable both) (sound b (usable .links)) (held .list) known-records)
-          ∙ ap (walkOn b a) (sym (held .is))
-          )
+  -- what is answered on the area with the list is what the question answers
+  pub list-checked : {o : List ℕ} {x : Answer (Reply × ℕ)} → Answered n l p m o x [] (lineCheck b m (listIn m n l c))
+      → Answered n l p a o x (lineRules b list) (lineCheck b a list)
+  unfolding decide
+  list-checked got =
+      record {
+        says =
+            got .says
+            ∙ ap (answer passed) (ap (lineCheck b m) (nodes .stands) ∙ sym (lineCheck-same (tables-still usable kept) (sound b (usable .links)) list every))
+            ∙ ap (λ (u : Ruling). answer u (lineCheck b a list)) list-passed;
+        kept = within-both kept (got .kept);
+      }
 
 -- ---- a list that was not taken in
 
@@ -143,14 +181,19 @@ not-taken (Repeated i) h e = no-refusal (sym e)
 not-taken (Nodes c) h e = miss (0 ∷ 1 ∷ 2 ∷ []) 3 tt h
 
 module _ {n : ℕ} {list a : List ℕ} {at : ℕ} {r : Taken} {m : List ℕ} (taken : TakenIn n list a at r m) where
-  pub list-refused : (b : List ℕ) → N b ≡ n → (x : Refusal) → ruled x ≡ ruling (takenSaid r) → {A : Type 0} (y : A)
-      → refusedBy x ≡ answer (decide (lineRules b list)) y
-  unfolding lineRules listRuled answer
-  list-refused b nodes x e y =
-      ap (λ (u : Ruling). answer u y) (
-      e ∙ ap ruling (taken .said) ∙ ruling-answer (listRuled n list) (length list)
-      ∙ ap (λ (u : Ruling). decide (rule8 (length list) ∷ u ∷ rule10 list ∷ [])) (sym (rule9-is b list n nodes))
-      )
-
   pub all-taken : {c : ℕ} → r ≡ Nodes c → AllNodes n list at c m
   all-taken e = were-nodes (subst (λ (x : Taken). TakenIn n list a at x m) e taken)
+
+module _ {b a : List ℕ} {n l p : ℕ} (usable : Usable b a n l p) {list : List ℕ} {r : Taken} {m : List ℕ}
+    (taken : TakenIn n list a (scratchAt n l) r m) where
+  pub list-refused : (x : Refusal) → ruled x ≡ ruling (takenSaid r) → {A : Type 0} (y : A) → Answered n l p a m (refusedBy x) (lineRules b list) y
+  unfolding lineRules listRuled answer
+  list-refused x e y =
+      record {
+        says =
+            ap (λ (u : Ruling). answer u y) (
+            e ∙ ap ruling (taken .said) ∙ ruling-answer (listRuled n list) (length list)
+            ∙ ap (λ (u : Ruling). decide (rule8 (length list) ∷ u ∷ rule10 list ∷ [])) (sym (rule9-is b list n (usable .read .nodes)))
+            );
+        kept = taken-kept n l p (taken .kept);
+      }

@@ -6,7 +6,9 @@ ghost use Rattle.paper.specs.Calls.{lineRules};
 ghost use Rattle.paper.specs.Records.{recordsIn};
 ghost use Rattle.paper.specs.Refusals.{answered, rule8, rule12, rule13};
 ghost use Rattle.paper.specs.Walk.{lineCheck, walk as walkOf};
-ghost use Rattle.tables.specs.Usable.{Usable};
+ghost use Rattle.tables.specs.Usable.{Usable, scratchAt};
+ghost use Rattle.intervals.specs.Answer.{listIn};
+ghost use Rattle.intervals.specs.Holds.{Listed};
 ghost use Rattle.walk.specs.Walks.{walkedSaid};
 ghost use Rattle.tables.specs.Answered.{Answered};
 ghost use Rattle.line_checker.specs.Said.{lineSaid};
@@ -40,7 +42,31 @@ fn walk_answer(walked: Walked) -> LineAnswer
     }
 }
 
-// The line check of a list: refusals 8, 9, 10; no with count 0 when it is not contiguous; else the queue walk.
+// The line check of a list that was taken in, whose `count` nodes stand in the scratch: no with count 0 when it is not contiguous; else the
+// queue walk.
+pub fn check_listed(
+    b: &[u8],
+    n: usize,
+    l: usize,
+    p: usize,
+    area: &mut [u16],
+    count: usize,
+) -> LineAnswer
+    requires { ⌜ Usable (now b) (now area) n l p ⌝ }
+    requires { ⌜ Listed (now area) (scratchAt n l) count n ⌝ }
+    ensures { λ r. ⌜ Answered n l p (now (area .entry)) (now (area .exit)) (lineSaid r) []
+        (lineCheck (now (b .entry)) (now (area .entry)) (listIn (now (area .entry)) n l count)) ⌝ }
+{
+    let mut room = record_room();
+    let found = get_intervals(b, n, l, p, area, count, &mut room);
+    let Intervals::Records(made) = found else {
+        return LineAnswer::No(0);
+    };
+    let walked = walk(b, n, l, p, area, &room, made);
+    walk_answer(walked)
+}
+
+// The line check of a list: refusals 8, 9, 10, then the check of its nodes.
 pub fn check_list(
     b: &[u8],
     n: usize,
@@ -57,13 +83,7 @@ pub fn check_list(
     let Taken::Nodes(count) = taken else {
         return LineAnswer::Refused(list_refusal(taken));
     };
-    let mut room = record_room();
-    let found = get_intervals(b, n, l, p, area, count, &mut room);
-    let Intervals::Records(made) = found else {
-        return LineAnswer::No(0);
-    };
-    let walked = walk(b, n, l, p, area, &room, made);
-    walk_answer(walked)
+    check_listed(b, n, l, p, area, count)
 }
 
 // The check by records: refusals 8, 12, 13, then the same walk.

@@ -25,7 +25,7 @@ pub enum IntervalsAnswer {
 }
 
 // The intervals of a list that was taken in, whose `count` nodes stand in the scratch: 11 if the records do not fit the buffer.
-fn write_intervals(
+pub fn write_intervals(
     b: &[u8],
     n: usize,
     l: usize,

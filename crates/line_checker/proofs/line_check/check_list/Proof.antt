@@ -1,10 +1,7 @@
--- `line_checker::line_check::check_list` meets its contract: the list taken in, its intervals, and the walk on their records.
+-- `line_checker::line_check::check_list` meets its contract: 8, 9 and 10 from taking the list in, then the check of its nodes.
 -- Rests on LineCheck.
-use native.Mathlib.Omega.{arith}
-use mathlib.Core.Path.{_∙_}
-use Rattle.tables.proofs.Within.{within-both}
 use Rattle.tables.proofs.Usable.{still-usable}
-use Rattle.line_checker.proofs.LineCheck.{taken-kept, not-taken, list-refused, all-taken, listed, gap-said, recorded, walk-said}
+use Rattle.line_checker.proofs.LineCheck.{taken-kept, not-taken, list-refused, all-taken, listed, list-checked}
 use borrow.Author.Needs.{needs}
 use Rattle.line_checker.proofs.line_check.check_list.Statement.{statement}
 use Rattle.line_checker.proofs.line_check.check_list.Tie as tie
@@ -38,87 +35,27 @@ returns : tie.Need-returns
 returns c =
     let taking = c .before .before .before .before in
     let start = taking .before .before .before .before .before in
-    record {
-      says = list-refused (taking .take-in .ensures) (start .args .b .now) (start .pre .read .nodes) (c .list-refusal .result) (c .list-refusal .ensures) _;
-      kept = taken-kept (start .args .n) (start .args .l) (start .args .p) (taking .take-in .ensures .kept);
-    }
+    list-refused (start .pre) (taking .take-in .ensures) (c .list-refusal .result) (c .list-refusal .ensures) _
 
-record-room-requires : tie.Need-record-room-requires
-record-room-requires c κs = search needs
-
-slice-aggregate-get-intervals : tie.Need-slice-aggregate-get-intervals
-slice-aggregate-get-intervals c = search needs
-
-get-intervals-requires : tie.Need-get-intervals-requires
-get-intervals-requires c κs =
-    let told = c .before .before .before in
+check-listed-requires : tie.Need-check-listed-requires
+check-listed-requires c κs =
+    let told = c .before in
     let taking = told .before .before .before .before .before in
     let start = taking .before .before .before .before .before in
     let kept = taken-kept (start .args .n) (start .args .l) (start .args .p) (taking .take-in .ensures .kept) in
-    let nodes = all-taken (taking .take-in .ensures) (told .before .taken .given .1) in (
-      still-usable (start .pre) kept,
-      (listed (start .pre) nodes kept, omega (arith, c .before .before .record-room .ensures, start .pre .read .few-nodes, start .pre .read .few-links)),
-    )
-
-enum-known-found : tie.Need-enum-known-found
-enum-known-found c = search needs
-
-enum-told : tie.Need-enum-told
-enum-told c = search needs
+    (still-usable (start .pre) kept, listed (start .pre) (all-taken (taking .take-in .ensures) (told .before .taken .given .1)) kept)
 
 same-length-2 : tie.Need-same-length-2
 same-length-2 c = search needs
 
 returns-2 : tie.Need-returns-2
 returns-2 c =
-    let found = c .before .before .before .before .before in
-    let told = found .before .before .before .before in
+    let checked = c .before .before in
+    let told = checked .before .before in
     let taking = told .before .before .before .before .before in
     let start = taking .before .before .before .before .before in
     let kept = taken-kept (start .args .n) (start .args .l) (start .args .p) (taking .take-in .ensures .kept) in
-    record {
-      says = gap-said (start .pre) (all-taken (taking .take-in .ensures) (told .before .taken .given .1)) kept (found .get-intervals .ensures) (c .enum-told .given .1);
-      kept = within-both kept (found .get-intervals .ensures .kept);
-    }
-
-slice-aggregate-walk : tie.Need-slice-aggregate-walk
-slice-aggregate-walk c = search needs
-
-walk-requires : tie.Need-walk-requires
-walk-requires c κs =
-    let made = c .before .before in
-    let found = made .before .before .before .before .before .before in
-    let told = found .before .before .before .before in
-    let taking = told .before .before .before .before .before in
-    let start = taking .before .before .before .before .before in
-    let kept = taken-kept (start .args .n) (start .args .l) (start .args .p) (taking .take-in .ensures .kept) in
-    let nodes = all-taken (taking .take-in .ensures) (told .before .taken .given .1) in (
-      still-usable (start .pre) (within-both kept (found .get-intervals .ensures .kept)),
-      recorded (start .pre) nodes kept (found .get-intervals .ensures) (made .before .found .given .1),
-    )
-
-walk-answer-requires : tie.Need-walk-answer-requires
-walk-answer-requires c κs = search needs
-
-same-length-3 : tie.Need-same-length-3
-same-length-3 c = search needs
-
-returns-3 : tie.Need-returns-3
-returns-3 c =
-    let walked = c .before .before .before in
-    let made = walked .before .before .before in
-    let found = made .before .before .before .before .before .before in
-    let told = found .before .before .before .before in
-    let taking = told .before .before .before .before .before in
-    let start = taking .before .before .before .before .before in
-    let kept = taken-kept (start .args .n) (start .args .l) (start .args .p) (taking .take-in .ensures .kept) in
-    let nodes = all-taken (taking .take-in .ensures) (told .before .taken .given .1) in
-    record {
-      says =
-          c .walk-answer .ensures
-          ∙ walk-said (start .pre) nodes kept (found .get-intervals .ensures) (made .before .found .given .1) (walked .walk .ensures .said);
-      kept = within-both kept (within-both (found .get-intervals .ensures .kept) (walked .walk .ensures .kept));
-    }
+    list-checked (start .pre) (all-taken (taking .take-in .ensures) (told .before .taken .given .1)) kept (checked .check-listed .ensures)
 
 pub check-list-spec : {M : Type 1} → statement M
 check-list-spec =
@@ -133,15 +70,6 @@ check-list-spec =
     list-refusal-requires
     same-length
     returns
-    record-room-requires
-    slice-aggregate-get-intervals
-    get-intervals-requires
-    enum-known-found
-    enum-told
+    check-listed-requires
     same-length-2
-    returns-2
-    slice-aggregate-walk
-    walk-requires
-    walk-answer-requires
-    same-length-3
-    returns-3)
+    returns-2)

@@ -1,0 +1,75 @@
+-- `byte_lists::check_list_bytes` meets its contract: 8, 9 and 10 from taking the list in from bytes, then the check of its nodes.
+-- Rests on line_checker's LineCheck.
+use Rattle.tables.proofs.Usable.{still-usable}
+use Rattle.line_checker.proofs.LineCheck.{taken-kept, not-taken, list-refused, all-taken, listed, list-checked}
+use borrow.Author.Needs.{needs}
+use Rattle.byte_lists.proofs.check_list_bytes.Statement.{statement}
+use Rattle.byte_lists.proofs.check_list_bytes.Tie as tie
+
+mul-take-in-bytes : tie.Need-mul-take-in-bytes
+mul-take-in-bytes c = search needs
+
+add-take-in-bytes : tie.Need-add-take-in-bytes
+add-take-in-bytes c = search needs
+
+mul-take-in-bytes-2 : tie.Need-mul-take-in-bytes-2
+mul-take-in-bytes-2 c = search needs
+
+add-take-in-bytes-2 : tie.Need-add-take-in-bytes-2
+add-take-in-bytes-2 c = search needs
+
+take-in-bytes-requires : tie.Need-take-in-bytes-requires
+take-in-bytes-requires c κs = search needs
+
+enum-known-taken : tie.Need-enum-known-taken
+enum-known-taken c = search needs
+
+list-refusal-requires : tie.Need-list-refusal-requires
+list-refusal-requires c κs =
+    not-taken (c .before .before .before .take-in-bytes .result) (c .match .keys2)
+
+same-length : tie.Need-same-length
+same-length c = search needs
+
+returns : tie.Need-returns
+returns c =
+    let taking = c .before .before .before .before in
+    let start = taking .before .before .before .before .before in
+    list-refused (start .pre) (taking .take-in-bytes .ensures) (c .list-refusal .result) (c .list-refusal .ensures) _
+
+check-listed-requires : tie.Need-check-listed-requires
+check-listed-requires c κs =
+    let told = c .before in
+    let taking = told .before .before .before .before .before in
+    let start = taking .before .before .before .before .before in
+    let kept = taken-kept (start .args .n) (start .args .l) (start .args .p) (taking .take-in-bytes .ensures .kept) in
+    (still-usable (start .pre) kept, listed (start .pre) (all-taken (taking .take-in-bytes .ensures) (told .before .taken .given .1)) kept)
+
+same-length-2 : tie.Need-same-length-2
+same-length-2 c = search needs
+
+returns-2 : tie.Need-returns-2
+returns-2 c =
+    let checked = c .before .before in
+    let told = checked .before .before in
+    let taking = told .before .before .before .before .before in
+    let start = taking .before .before .before .before .before in
+    let kept = taken-kept (start .args .n) (start .args .l) (start .args .p) (taking .take-in-bytes .ensures .kept) in
+    list-checked (start .pre) (all-taken (taking .take-in-bytes .ensures) (told .before .taken .given .1)) kept (checked .check-listed .ensures)
+
+pub check-list-bytes-spec : {M : Type 1} → statement M
+check-list-bytes-spec =
+    tie.close
+    (tie.spec
+    mul-take-in-bytes
+    add-take-in-bytes
+    mul-take-in-bytes-2
+    add-take-in-bytes-2
+    take-in-bytes-requires
+    enum-known-taken
+    list-refusal-requires
+    same-length
+    returns
+    check-listed-requires
+    same-length-2
+    returns-2)

@@ -1,0 +1,141 @@
+-- `byte_lists::write_intervals_bytes` meets its contract: the records go into a room of words, and from there into the bytes.
+-- Rests on IntervalsBytes.
+use Prim.Native.Nat.{ℕ, _*_, _-_}
+use native.Mathlib.Omega.{arith}
+use mathlib.Core.List.{List}
+use lib.ListN.{drop}
+use Rattle.lists.proofs.Sections.{part}
+use Rattle.paper.specs.Intervals.{intervals}
+use Rattle.intervals.specs.Answer.{listIn}
+use Rattle.byte_lists.proofs.IntervalsBytes.{InRoom, in-room, not-to-bytes, few-words, records-inside, words-fit, records-to-bytes}
+use borrow.Author.Needs.{needs}
+use Rattle.byte_lists.proofs.write_intervals_bytes.Statement.{statement}
+use Rattle.byte_lists.proofs.write_intervals_bytes.Tie as tie
+use Rattle.byte_lists.proofs.write_intervals_bytes.Reads as reads
+use Rattle.byte_lists.proofs.write_intervals_bytes.Lts as lts
+use Rattle.byte_lists.proofs.few_records.Reads as few-records-reads
+use Rattle.line_checker.proofs.list_intervals.write_intervals.Reads as write-intervals-reads
+use Rattle.line_checker.proofs.room.record_room.Reads as record-room-reads
+use Rattle.words.proofs.bytes.put_words.Reads as put-words-reads
+
+-- the place where the records stand in the room, or do not
+abbrev Written : Type 0
+Written =
+    lts.After-write-intervals (
+      few-records-reads.Asked,
+      few-records-reads.Learnt,
+      record-room-reads.Asked,
+      record-room-reads.Learnt,
+      write-intervals-reads.Asked,
+      write-intervals-reads.Learnt,
+      put-words-reads.Asked,
+      put-words-reads.Learnt,
+    ) reads.Pre reads.Post
+
+-- the words of the room that were not lent
+abbrev rest : Written → List ℕ
+rest w = drop (3 * w .before .before .before .before .few-records .result - 0) (w .before .before .before .record-room .result)
+
+asked : (w : Written)
+    → let s = w .before .before .before .before .before .before .before .before in
+    InRoom (s .args .n) (s .args .l) (s .args .p) (s .args .area .now) (w .write-intervals .last .1 .1 .1 .1 .0) (w .write-intervals .result)
+    (intervals (s .args .b .now) (s .args .area .now) (listIn (s .args .area .now) (s .args .n) (s .args .l) (s .args .count)))
+    (part (w .before .before .before .record-room .result) 0 (3 * w .before .before .before .before .few-records .result - 0))
+    (w .write-intervals .last .1 .1 .1 .1 .1 .1 .0)
+    (s .args .buffer .now)
+asked w =
+    let s = w .before .before .before .before .before .before .before .before in
+    in-room (s .pre .0) (s .pre .1) (s .args .buffer .now) (λ i. omega (arith, w .before .before .before .before .before .slice-known2 .given i))
+    (w .before .before .before .before .few-records .ensures) (w .before .before .before .record-room .result) (w .before .before .before .record-room .ensures)
+    (w .write-intervals .result) (w .write-intervals .ensures)
+
+few-records-requires : tie.Need-few-records-requires
+few-records-requires c κs = search needs
+
+record-room-requires : tie.Need-record-room-requires
+record-room-requires c κs = search needs
+
+mul-write-intervals : tie.Need-mul-write-intervals
+mul-write-intervals c = search needs
+
+sub-write-intervals : tie.Need-sub-write-intervals
+sub-write-intervals c = search needs
+
+part-room-start : tie.Need-part-room-start
+part-room-start c = search needs
+
+part-room-end : tie.Need-part-room-end
+part-room-end c = search needs
+
+write-intervals-requires : tie.Need-write-intervals-requires
+write-intervals-requires c κs = search needs
+
+enum-known-written : tie.Need-enum-known-written
+enum-known-written c = search needs
+
+same-length : tie.Need-same-length
+same-length c = search needs
+
+returns : tie.Need-returns
+returns c =
+    let written = c .before .before .before .before in
+    not-to-bytes (asked written) (c .match .keys2)
+
+mul-put-words : tie.Need-mul-put-words
+mul-put-words c =
+    let written = c .before .before .before .before .before .before in
+    omega (arith, few-words (asked written) (c .before .written .given .1))
+
+sub-put-words : tie.Need-sub-put-words
+sub-put-words c = search needs
+
+part-put-words-start : tie.Need-part-put-words-start
+part-put-words-start c = search needs
+
+part-put-words-end : tie.Need-part-put-words-end
+part-put-words-end c =
+    let made = c .before in
+    let written = made .before .before .before .before .before .before in
+    records-inside (asked written) (made .before .written .given .1) (rest written)
+
+put-words-requires : tie.Need-put-words-requires
+put-words-requires c κs =
+    let made = c .before .before .before in
+    let written = made .before .before .before .before .before .before in
+    words-fit (asked written) (made .before .written .given .1) (rest written)
+
+same-length-2 : tie.Need-same-length-2
+same-length-2 c = search needs
+
+same-length-3 : tie.Need-same-length-3
+same-length-3 c = search needs
+
+returns-2 : tie.Need-returns-2
+returns-2 c =
+    let put = c .before .before in
+    let made = put .before .before .before .before in
+    let written = made .before .before .before .before .before .before in
+    records-to-bytes (asked written) (made .before .written .given .1) (rest written) (put .put-words .ensures)
+
+pub write-intervals-bytes-spec : {M : Type 1} → statement M
+write-intervals-bytes-spec =
+    tie.close
+    (tie.spec
+    few-records-requires
+    record-room-requires
+    mul-write-intervals
+    sub-write-intervals
+    part-room-start
+    part-room-end
+    write-intervals-requires
+    enum-known-written
+    same-length
+    returns
+    mul-put-words
+    sub-put-words
+    part-put-words-start
+    part-put-words-end
+    put-words-requires
+    same-length-2
+    same-length-3
+    returns-2)

@@ -1,0 +1,112 @@
+// The questions on a list whose words cross as bytes, however long it is: it is taken in from the bytes, and what follows is the same.
+ghost use mathlib.Core.Path.{_≡_};
+ghost use mathlib.Core.List.{[], _∷_};
+ghost use Prim.Native.Nat.{min};
+ghost use Rattle.paper.specs.Calls.{lineRules, needed, said, wordsOf};
+ghost use Rattle.paper.specs.Intervals.{intervals};
+ghost use Rattle.paper.specs.Refusals.{rule9, rule10, rule11, wholeRecords};
+ghost use Rattle.paper.specs.Walk.{lineCheck};
+ghost use Rattle.paper.specs.Words.{wordsFrom};
+ghost use Rattle.intervals.specs.Answer.{listIn};
+ghost use Rattle.intervals.specs.Holds.{Listed};
+ghost use Rattle.line_checker.specs.Said.{intervalsSaid, lineSaid};
+ghost use Rattle.tables.specs.Answered.{Answered, AnsweredBytes};
+ghost use Rattle.tables.specs.Usable.{Usable, scratchAt};
+use line_checker::line_check::LineAnswer;
+use line_checker::line_check::check_listed;
+use line_checker::list_intervals::IntervalsAnswer;
+use line_checker::list_intervals::write_intervals;
+use line_checker::refused::list_refusal;
+use line_checker::room::record_room;
+use refusals::Refusal;
+use take_in::Taken;
+use take_in::take_in_bytes;
+use words::bytes::put_words;
+
+// The line check of a list in bytes: refusals 8, 9, 10, then as `check_list`.
+pub fn check_list_bytes(
+    b: &[u8],
+    n: usize,
+    l: usize,
+    p: usize,
+    area: &mut [u16],
+    list: &[u8],
+) -> LineAnswer
+    requires { ⌜ Usable (now b) (now area) n l p ⌝ }
+    ensures { λ r. ⌜ Answered n l p (now (area .entry)) (now (area .exit)) (lineSaid r)
+        (lineRules (now (b .entry)) (wordsFrom (now (list .entry))))
+        (lineCheck (now (b .entry)) (now (area .entry)) (wordsFrom (now (list .entry)))) ⌝ }
+{
+    let taken = take_in_bytes(list, n, area, 3 + 6 * n + 5 * l);
+    let Taken::Nodes(count) = taken else {
+        return LineAnswer::Refused(list_refusal(taken));
+    };
+    check_listed(b, n, l, p, area, count)
+}
+
+// So many records as there is room for here, which is one for each line of the largest map.
+fn few_records(whole: usize) -> usize
+    ensures { λ r. ⌜ r ≡ min whole 2560 ⌝ }
+{
+    if 2560 < whole {
+        return 2560;
+    }
+    whole
+}
+
+// The intervals of a list that was taken in, whose `count` nodes stand in the scratch, into a buffer of bytes.
+fn write_intervals_bytes(
+    b: &[u8],
+    n: usize,
+    l: usize,
+    p: usize,
+    area: &mut [u16],
+    count: usize,
+    buffer: &mut [u8],
+) -> IntervalsAnswer
+    requires { ⌜ Usable (now b) (now area) n l p ⌝ }
+    requires { ⌜ Listed (now area) (scratchAt n l) count n ⌝ }
+    ensures { λ r. ⌜ AnsweredBytes n l p (now (area .entry)) (now (area .exit)) (intervalsSaid r)
+        (rule11 (wholeRecords (wordsFrom (now (buffer .entry))))
+        (needed (intervals (now (b .entry)) (now (area .entry)) (listIn (now (area .entry)) n l count))) ∷ [])
+        (said (intervals (now (b .entry)) (now (area .entry)) (listIn (now (area .entry)) n l count)))
+        (now (buffer .entry)) (now (buffer .exit))
+        (wordsOf (intervals (now (b .entry)) (now (area .entry)) (listIn (now (area .entry)) n l count))) ⌝ }
+{
+    let whole = few_records(buffer.len() / 2 / 3);
+    let mut room = record_room();
+    let written = write_intervals(b, n, l, p, area, count, &mut room[0..3 * whole]);
+    let IntervalsAnswer::Records(made) = written else {
+        return written;
+    };
+    put_words(&room[0..3 * made], buffer);
+    written
+}
+
+// The intervals of a list in bytes, into a buffer of bytes: refusals 9, 10, 11, and no records for no nodes.
+pub fn intervals_of_list_bytes(
+    b: &[u8],
+    n: usize,
+    l: usize,
+    p: usize,
+    area: &mut [u16],
+    list: &[u8],
+    buffer: &mut [u8],
+) -> IntervalsAnswer
+    requires { ⌜ Usable (now b) (now area) n l p ⌝ }
+    ensures { λ r. ⌜ AnsweredBytes n l p (now (area .entry)) (now (area .exit)) (intervalsSaid r)
+        (rule9 (now (b .entry)) (wordsFrom (now (list .entry))) ∷ rule10 (wordsFrom (now (list .entry)))
+        ∷ rule11 (wholeRecords (wordsFrom (now (buffer .entry))))
+        (needed (intervals (now (b .entry)) (now (area .entry)) (wordsFrom (now (list .entry))))) ∷ [])
+        (said (intervals (now (b .entry)) (now (area .entry)) (wordsFrom (now (list .entry)))))
+        (now (buffer .entry)) (now (buffer .exit))
+        (wordsOf (intervals (now (b .entry)) (now (area .entry)) (wordsFrom (now (list .entry))))) ⌝ }
+{
+    let taken = take_in_bytes(list, n, area, 3 + 6 * n + 5 * l);
+    match taken {
+        Taken::Empty => IntervalsAnswer::Records(0),
+        Taken::Unknown(i) => IntervalsAnswer::Refused(Refusal::Unknown(i)),
+        Taken::Repeated(i) => IntervalsAnswer::Refused(Refusal::Repeated(i)),
+        Taken::Nodes(count) => write_intervals_bytes(b, n, l, p, area, count, buffer),
+    }
+}
