@@ -11,11 +11,13 @@ ghost use lib.Seq.{sets};
 ghost use Rattle.lists.specs.Lists.{upto};
 ghost use Rattle.paper.specs.Map.{firstPort};
 ghost use Rattle.paper.specs.Refusals.{passed, rule45};
+ghost use Rattle.paper.specs.Words.{wordsFrom};
 ghost use Rattle.stepmap.specs.Formed.{Numbered, ReadWell};
 ghost use Rattle.port_conflict.specs.Marks.{PortsChecked};
 ghost use Rattle.port_conflict.specs.Said.{portsSaid};
 use links::first_links_meet;
 use marks::mark_ports;
+use marks::mark_ports_bytes;
 use stepmap::ports::first_ports;
 
 // What two lists of ports come to: an unknown port at an entry of its list, a conflict, or none.
@@ -59,6 +61,38 @@ pub fn check_ports(
         return among_inputs;
     };
     let among_outputs = mark_ports(area, marks + p, p, outputs);
+    let PortsFound::Clear = among_outputs else {
+        return among_outputs;
+    };
+    if first_links_meet(b, n, l, p, area, at) {
+        return PortsFound::Conflict;
+    }
+    PortsFound::Clear
+}
+
+// The same of lists in bytes.
+pub fn check_ports_bytes(
+    b: &[u8],
+    n: usize,
+    l: usize,
+    p: usize,
+    area: &mut [u16],
+    at: usize,
+    inputs: &[u8],
+    outputs: &[u8],
+) -> PortsFound
+    requires { ⌜ ReadWell (now b) n l p ⌝ }
+    requires { ⌜ rule45 (now b) ≡ passed ⌝ }
+    requires { ⌜ at + (n + 1) + 2 * p ≤ length (now area) ⌝ }
+    ensures { λ r. ⌜ PortsChecked (now (b .entry)) (now (area .entry)) (now (area .exit)) n p at (wordsFrom (now (inputs .entry))) (wordsFrom (now (outputs .entry))) (portsSaid r) ⌝ }
+{
+    let marks = at + (n + 1);
+    first_ports_at(b, n, area, at);
+    let among_inputs = mark_ports_bytes(area, marks, p, inputs);
+    let PortsFound::Clear = among_inputs else {
+        return among_inputs;
+    };
+    let among_outputs = mark_ports_bytes(area, marks + p, p, outputs);
     let PortsFound::Clear = among_outputs else {
         return among_outputs;
     };

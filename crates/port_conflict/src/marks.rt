@@ -1,9 +1,11 @@
 // Lists of ports as marks: refusal 14, and a word for each port that is 1 if the port is listed.
 ghost use Prim.Native.Nat.{_+_, _≤_};
 ghost use lib.ListN.{length};
+ghost use Rattle.paper.specs.Words.{wordsFrom};
 ghost use Rattle.port_conflict.specs.Marks.{ListMarked, PortMarked};
 ghost use Rattle.port_conflict.specs.Said.{portsSaid};
 use super::PortsFound;
+use words::field::field_at;
 use words::field::wide;
 use words::section::fill;
 
@@ -28,6 +30,23 @@ pub fn mark_ports(area: &mut [u16], marks: usize, p: usize, ports: &[u16]) -> Po
     let mut i = 0;
     while i < ports.len() {
         if !mark_port(area, marks, p, wide(ports[i])) {
+            return PortsFound::Unknown(i);
+        }
+        i += 1;
+    }
+    PortsFound::Clear
+}
+
+// The same of a list in bytes.
+pub fn mark_ports_bytes(area: &mut [u16], marks: usize, p: usize, ports: &[u8]) -> PortsFound
+    requires { ⌜ marks + p ≤ length (now area) ⌝ }
+    ensures { λ r. ⌜ ListMarked (now (area .entry)) (now (area .exit)) marks p (wordsFrom (now (ports .entry))) (portsSaid r) ⌝ }
+{
+    fill(area, marks, p, 0);
+    let count = ports.len() / 2;
+    let mut i = 0;
+    while i < count {
+        if !mark_port(area, marks, p, wide(field_at(ports, 2 * i))) {
             return PortsFound::Unknown(i);
         }
         i += 1;

@@ -23,7 +23,7 @@ use topo_checker::TopoAnswer;
 use topo_checker::check_order;
 
 // The line check's answer by what the ports come to: refusal 14, no with count 0 on a conflict, else what it was.
-fn line_after_ports(found: PortsFound, checked: LineAnswer) -> LineAnswer
+pub fn line_after_ports(found: PortsFound, checked: LineAnswer) -> LineAnswer
     ensures { λ r. ⌜ lineSaid r ≡ afterPorts (portsSaid found) (Reply.No, 0) (lineSaid checked) ⌝ }
 {
     match found {
@@ -59,7 +59,7 @@ pub fn check_list_with_ports(
 }
 
 // The order check's answer by what the ports come to: refusal 14, no on a conflict, else what it was.
-fn order_after_ports(found: PortsFound, checked: TopoAnswer) -> TopoAnswer
+pub fn order_after_ports(found: PortsFound, checked: TopoAnswer) -> TopoAnswer
     ensures { λ r. ⌜ topoSaid r ≡ afterPorts (portsSaid found) Reply.No (topoSaid checked) ⌝ }
 {
     match found {

@@ -1,0 +1,72 @@
+// The checks with ports on lists whose words cross as bytes, however long they are (see `with_ports`).
+ghost use mathlib.Core.Bool.{cond};
+ghost use mathlib.Core.List.{_++_};
+ghost use Rattle.paper.specs.Calls.{lineRules, orderRules, portRules};
+ghost use Rattle.paper.specs.Intervals.{Reply};
+ghost use Rattle.paper.specs.OrderCheck.{orderCheck};
+ghost use Rattle.paper.specs.Ports.{conflict};
+ghost use Rattle.paper.specs.Walk.{lineCheck};
+ghost use Rattle.paper.specs.Words.{wordsFrom};
+ghost use Rattle.tables.specs.Answered.{Answered};
+ghost use Rattle.tables.specs.Usable.{Usable};
+ghost use Rattle.line_checker.specs.Said.{lineSaid};
+ghost use Rattle.topo_checker.specs.Said.{topoSaid};
+use byte_lists::check_list_bytes;
+use line_checker::line_check::LineAnswer;
+use port_conflict::check_ports_bytes;
+use topo_checker::TopoAnswer;
+use topo_checker::check_order_bytes;
+use with_ports::line_after_ports;
+use with_ports::order_after_ports;
+
+// The line check with ports: the check's refusals come first, then 14; no with count 0 on a conflict; else the check.
+pub fn check_list_with_ports_bytes(
+    b: &[u8],
+    n: usize,
+    l: usize,
+    p: usize,
+    area: &mut [u16],
+    list: &[u8],
+    inputs: &[u8],
+    outputs: &[u8],
+) -> LineAnswer
+    requires { ⌜ Usable (now b) (now area) n l p ⌝ }
+    ensures { λ r. ⌜ Answered n l p (now (area .entry)) (now (area .exit)) (lineSaid r)
+        (lineRules (now (b .entry)) (wordsFrom (now (list .entry)))
+        ++ portRules (now (b .entry)) (wordsFrom (now (inputs .entry))) (wordsFrom (now (outputs .entry))))
+        (cond (conflict (now (b .entry)) (wordsFrom (now (inputs .entry))) (wordsFrom (now (outputs .entry)))) (Reply.No, 0)
+        (lineCheck (now (b .entry)) (now (area .entry)) (wordsFrom (now (list .entry))))) ⌝ }
+{
+    let checked = check_list_bytes(b, n, l, p, area, list);
+    if let LineAnswer::Refused(x) = checked {
+        return LineAnswer::Refused(x);
+    }
+    let found = check_ports_bytes(b, n, l, p, area, 3 + 6 * n + 5 * l, inputs, outputs);
+    line_after_ports(found, checked)
+}
+
+// The order check with ports: its refusal comes first, then 14; no on a conflict; else the check.
+pub fn check_order_with_ports_bytes(
+    b: &[u8],
+    n: usize,
+    l: usize,
+    p: usize,
+    area: &mut [u16],
+    list: &[u8],
+    inputs: &[u8],
+    outputs: &[u8],
+) -> TopoAnswer
+    requires { ⌜ Usable (now b) (now area) n l p ⌝ }
+    ensures { λ r. ⌜ Answered n l p (now (area .entry)) (now (area .exit)) (topoSaid r)
+        (orderRules (now (b .entry)) (wordsFrom (now (list .entry)))
+        ++ portRules (now (b .entry)) (wordsFrom (now (inputs .entry))) (wordsFrom (now (outputs .entry))))
+        (cond (conflict (now (b .entry)) (wordsFrom (now (inputs .entry))) (wordsFrom (now (outputs .entry)))) Reply.No
+        (orderCheck (now (b .entry)) (now (area .entry)) (wordsFrom (now (list .entry))))) ⌝ }
+{
+    let checked = check_order_bytes(b, n, l, p, area, list);
+    if let TopoAnswer::Refused(x) = checked {
+        return TopoAnswer::Refused(x);
+    }
+    let found = check_ports_bytes(b, n, l, p, area, 3 + 6 * n + 5 * l, inputs, outputs);
+    order_after_ports(found, checked)
+}

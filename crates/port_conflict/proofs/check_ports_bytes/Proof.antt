@@ -1,0 +1,117 @@
+-- `port_conflict::check_ports_bytes` meets its contract: as check_ports, with the words that the bytes stand for.
+-- Rests on Answering.
+use native.Mathlib.Omega.{arith}
+use borrow.Author.Needs.{needs}
+use mathlib.Core.Path.{refl, ap}
+use denote.Enum.Declared.{tagOf}
+use Rattle.paper.specs.Words.{wordsFrom}
+use Rattle.stepmap.proofs.Known.{numbered}
+use Rattle.port_conflict.specs.Said.{portsSaid}
+use Rattle.port_conflict.proofs.PortsFound.{the-type}
+use Rattle.port_conflict.proofs.Answering.{InputsMarked, OutputsMarked, unknown-input, unknown-output, laid, decided}
+use Rattle.port_conflict.proofs.Said.{not-clear}
+use Rattle.port_conflict.proofs.check_ports_bytes.Statement.{statement}
+use Rattle.port_conflict.proofs.check_ports_bytes.Tie as tie
+
+-- the inputs are marked, or one of them is unknown
+inputs-marked : (s : tie.After-mark-ports-bytes)
+    → let start = s .before .before .before .before .before .before .before .before .before .before in InputsMarked (start .args .b .now) (start .args .area .now) (s .mark-ports-bytes .last .0) (wordsFrom (start .args .inputs .now)) (start .args .n) (start .args .l) (start .args .p) (start .args .at) (portsSaid (s .mark-ports-bytes .result))
+inputs-marked s =
+    let start = s .before .before .before .before .before .before .before .before .before .before in
+    record {
+      read = start .pre .0;
+      links = start .pre .1 .0;
+      room = start .pre .1 .1;
+      firsts = _;
+      written = s .before .before .before .before .first-ports-at .ensures;
+      listed = s .mark-ports-bytes .ensures;
+    }
+
+-- .. and then the outputs, where all inputs are known
+outputs-marked : (s : tie.After-mark-ports-bytes2)
+    → let start = s .before .before .before .before .before .before .before .before .before .before .before .before .before .before .before .before in OutputsMarked (start .args .b .now) (start .args .area .now) (s .mark-ports-bytes2 .last .0) (wordsFrom (start .args .inputs .now)) (wordsFrom (start .args .outputs .now)) (start .args .n) (start .args .l) (start .args .p) (start .args .at) (portsSaid (s .mark-ports-bytes2 .result))
+outputs-marked s =
+    record {
+      before-them = _;
+      said-before = _;
+      known-inputs = ap portsSaid (s .before .before .enum-told .given .1);
+      inputs-marked = inputs-marked (s .before .before .before .before .before .before);
+      listed = s .mark-ports-bytes2 .ensures;
+    }
+
+add-marks : tie.Need-add-marks
+add-marks c = search needs
+
+add-marks-2 : tie.Need-add-marks-2
+add-marks-2 c = search needs
+
+first-ports-at-requires : tie.Need-first-ports-at-requires
+first-ports-at-requires c κs =
+    let start = c .before .before .before .before .before in
+    (numbered (start .pre .0), omega (arith, start .pre .1 .1))
+
+mark-ports-bytes-requires : tie.Need-mark-ports-bytes-requires
+mark-ports-bytes-requires c κs = search needs
+
+enum-told : tie.Need-enum-told
+enum-told c = search needs
+
+same-length : tie.Need-same-length
+same-length c = search needs
+
+returns : tie.Need-returns
+returns c =
+    unknown-input (inputs-marked (c .before .before .before)) _
+    (not-clear (tagOf the-type) refl (c .before .before .before .mark-ports-bytes .result) (c .match .keys2))
+
+add-mark-ports-bytes : tie.Need-add-mark-ports-bytes
+add-mark-ports-bytes c = search needs
+
+mark-ports-bytes-requires-2 : tie.Need-mark-ports-bytes-requires-2
+mark-ports-bytes-requires-2 c κs = search needs
+
+enum-told-2 : tie.Need-enum-told-2
+enum-told-2 c = search needs
+
+same-length-2 : tie.Need-same-length-2
+same-length-2 c = search needs
+
+returns-2 : tie.Need-returns-2
+returns-2 c = unknown-output (outputs-marked (c .before .before .before)) (not-clear (tagOf the-type) refl (c .before .before .before .mark-ports-bytes2 .result) (c .match2 .keys2))
+
+first-links-meet-requires : tie.Need-first-links-meet-requires
+first-links-meet-requires c κs = laid (outputs-marked (c .before .before .before .before .before))
+
+same-length-3 : tie.Need-same-length-3
+same-length-3 c = search needs
+
+returns-3 : tie.Need-returns-3
+returns-3 c = decided (outputs-marked (c .before .before .before .before .before .before .before .before .before)) (ap portsSaid (c .before .before .before .before .before .enum-told2 .given .1)) (c .before .before .before .first-links-meet .ensures) (c .if1 .taken)
+
+same-length-4 : tie.Need-same-length-4
+same-length-4 c = search needs
+
+returns-4 : tie.Need-returns-4
+returns-4 c = decided (outputs-marked (c .before .before .before .before .before .before .before .before .before)) (ap portsSaid (c .before .before .before .before .before .enum-told2 .given .1)) (c .before .before .before .first-links-meet .ensures) (c .if1 .left)
+
+pub check-ports-bytes-spec : {M : Type 1} → statement M
+check-ports-bytes-spec =
+    tie.close
+    (tie.spec
+    add-marks
+    add-marks-2
+    first-ports-at-requires
+    mark-ports-bytes-requires
+    enum-told
+    same-length
+    returns
+    add-mark-ports-bytes
+    mark-ports-bytes-requires-2
+    enum-told-2
+    same-length-2
+    returns-2
+    first-links-meet-requires
+    same-length-3
+    returns-3
+    same-length-4
+    returns-4)
