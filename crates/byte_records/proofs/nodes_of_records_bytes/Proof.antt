@@ -1,0 +1,168 @@
+-- `byte_records::nodes_of_records_bytes` meets its contract: a count beyond the buffer, and then the nodes in the first records, put into the buffer.
+-- Rests on NodesBack, InRoom and PutBack.
+use Prim.Native.Nat.{ℕ}
+use native.Mathlib.Omega.{arith}
+use mathlib.Core.List.{List, [], _∷_}
+use mathlib.Core.Path.{refl, sym}
+use lib.ListN.{length}
+use Rattle.paper.specs.Records.{nodesIn, recordsIn}
+use Rattle.paper.specs.Refusals.{Ruling, rule11}
+use Rattle.paper.specs.Words.{wordsFrom}
+use Rattle.refusals.proofs.Rulings.{no-refusal}
+use Rattle.tables.proofs.Within.{within-none}
+use Rattle.line_checker.proofs.Into.{into-answered, into-refused}
+use Rattle.line_checker.proofs.RecordCalls.{records-refused}
+use Rattle.byte_records.proofs.Crossed.{beyond-bytes}
+use Rattle.byte_records.proofs.InRoom.{read-all}
+use Rattle.byte_records.proofs.NodesBack.{node-room, nodes-left, nodes-put, made-inside, made-in-room}
+use Rattle.byte_records.proofs.PutBack.{into-bytes}
+use borrow.Author.Needs.{needs}
+use Rattle.byte_records.proofs.nodes_of_records_bytes.Statement.{statement}
+use Rattle.byte_records.proofs.nodes_of_records_bytes.Tie as tie
+
+returns : tie.Need-returns
+returns c =
+    let start = c .before .before .before .before .before in
+    let words : List ℕ = wordsFrom (start .args .records .now) in
+    let rest : List Ruling = rule11 (length (wordsFrom (start .args .buffer .now))) (length (nodesIn (start .args .b .now) (start .args .area .now) (recordsIn words (start .args .count)))) ∷ [] in
+    into-bytes (start .args .buffer .now) (λ i. omega (arith, c .before .slice-known2 .given i))
+    (into-answered within-none (
+    into-refused _ _ _ _
+    (records-refused (start .pre)
+    (beyond-bytes (start .args .b .now) (start .args .area .now) (start .args .n) (start .args .l) (start .args .p) (start .args .records .now) (c .if1 .taken))
+    refl (λ e. no-refusal (sym e)) rest)
+    ))
+
+wide-room-requires : tie.Need-wide-room-requires
+wide-room-requires c κs = search needs
+
+slice-aggregate-read-records : tie.Need-slice-aggregate-read-records
+slice-aggregate-read-records c = search needs
+
+read-records-requires : tie.Need-read-records-requires
+read-records-requires c κs = search needs
+
+node-words-requires : tie.Need-node-words-requires
+node-words-requires c κs = search needs
+
+at-most-requires : tie.Need-at-most-requires
+at-most-requires c κs = search needs
+
+slice-aggregate-nodes-of-records : tie.Need-slice-aggregate-nodes-of-records
+slice-aggregate-nodes-of-records c = search needs
+
+sub-nodes-of-records : tie.Need-sub-nodes-of-records
+sub-nodes-of-records c = search needs
+
+part-nodes-start : tie.Need-part-nodes-start
+part-nodes-start c = search needs
+
+part-nodes-end : tie.Need-part-nodes-end
+part-nodes-end c = search needs
+
+nodes-of-records-requires : tie.Need-nodes-of-records-requires
+nodes-of-records-requires c κs = search needs
+
+enum-known-found : tie.Need-enum-known-found
+enum-known-found c = search needs
+
+enum-told : tie.Need-enum-told
+enum-told c = search needs
+
+same-length : tie.Need-same-length
+same-length c = search needs
+
+returns-2 : tie.Need-returns-2
+returns-2 c =
+    let found = c .before .before .before .before .before in
+    let fit = found .before .before .before .before in
+    let read = fit .before .before .before in
+    let made = read .before .before in
+    let start = made .before .before .before .before .before .before in
+    nodes-left (start .pre)
+    (read-all (made .wide-room .result) (start .args .records .now) (made .before .if1 .left) (made .wide-room .ensures) (read .read-records .ensures))
+    (start .args .buffer .now) (λ i. omega (arith, made .before .before .slice-known2 .given i))
+    (node-room (fit .before .node-words .result) (start .args .buffer .now) (fit .before .node-words .ensures) (fit .at-most .ensures))
+    (found .nodes-of-records .result) (found .nodes-of-records .ensures)
+    (c .enum-told .given .1)
+
+sub-put-words : tie.Need-sub-put-words
+sub-put-words c = search needs
+
+part-put-words-start : tie.Need-part-put-words-start
+part-put-words-start c = search needs
+
+part-put-words-end : tie.Need-part-put-words-end
+part-put-words-end c =
+    let found = c .before .before .before .before .before .before .before in
+    let fit = found .before .before .before .before in
+    let read = fit .before .before .before in
+    let made = read .before .before in
+    let start = made .before .before .before .before .before .before in
+    made-in-room (start .pre)
+    (read-all (made .wide-room .result) (start .args .records .now) (made .before .if1 .left) (made .wide-room .ensures) (read .read-records .ensures))
+    (start .args .buffer .now) (λ i. omega (arith, made .before .before .slice-known2 .given i))
+    (node-room (fit .before .node-words .result) (start .args .buffer .now) (fit .before .node-words .ensures) (fit .at-most .ensures))
+    (found .nodes-of-records .result) (found .nodes-of-records .ensures)
+    (c .before .before .found .given .1) _
+
+put-words-requires : tie.Need-put-words-requires
+put-words-requires c κs =
+    let found = c .before .before .before .before .before .before .before .before .before in
+    let fit = found .before .before .before .before in
+    let read = fit .before .before .before in
+    let made = read .before .before in
+    let start = made .before .before .before .before .before .before in
+    made-inside (start .pre)
+    (read-all (made .wide-room .result) (start .args .records .now) (made .before .if1 .left) (made .wide-room .ensures) (read .read-records .ensures))
+    (start .args .buffer .now) (λ i. omega (arith, made .before .before .slice-known2 .given i))
+    (node-room (fit .before .node-words .result) (start .args .buffer .now) (fit .before .node-words .ensures) (fit .at-most .ensures))
+    (found .nodes-of-records .result) (found .nodes-of-records .ensures)
+    (c .before .before .before .before .found .given .1) _
+
+same-length-2 : tie.Need-same-length-2
+same-length-2 c = search needs
+
+same-length-3 : tie.Need-same-length-3
+same-length-3 c = search needs
+
+returns-3 : tie.Need-returns-3
+returns-3 c =
+    let found = c .before .before .before .before .before .before .before .before .before .before .before .before in
+    let fit = found .before .before .before .before in
+    let read = fit .before .before .before in
+    let made = read .before .before in
+    let start = made .before .before .before .before .before .before in
+    nodes-put (start .pre)
+    (read-all (made .wide-room .result) (start .args .records .now) (made .before .if1 .left) (made .wide-room .ensures) (read .read-records .ensures))
+    (start .args .buffer .now) (λ i. omega (arith, made .before .before .slice-known2 .given i))
+    (node-room (fit .before .node-words .result) (start .args .buffer .now) (fit .before .node-words .ensures) (fit .at-most .ensures))
+    (found .nodes-of-records .result) (found .nodes-of-records .ensures)
+    (c .before .before .before .before .before .before .before .found .given .1) _ (c .before .before .put-words .ensures)
+
+pub nodes-of-records-bytes-spec : {M : Type 1} → statement M
+nodes-of-records-bytes-spec =
+    tie.close
+    (tie.spec
+    returns
+    wide-room-requires
+    slice-aggregate-read-records
+    read-records-requires
+    node-words-requires
+    at-most-requires
+    slice-aggregate-nodes-of-records
+    sub-nodes-of-records
+    part-nodes-start
+    part-nodes-end
+    nodes-of-records-requires
+    enum-known-found
+    enum-told
+    same-length
+    returns-2
+    sub-put-words
+    part-put-words-start
+    part-put-words-end
+    put-words-requires
+    same-length-2
+    same-length-3
+    returns-3)
