@@ -129,11 +129,11 @@ module _ {b a : List ℕ} {o : Opened} {m : List ℕ} (known : OpenLeft b a o m)
 -- ---- a port, which the area has nothing to do with
 
 module _ (b : List ℕ) {p : ℕ} (ports : P b ≡ p) (q : ℕ) where
-  unknown-port : p ≤ q → refusal 14 0 ≡ rule14 b (q ∷ [])
+  pub unknown-port : p ≤ q → refusal 14 0 ≡ rule14 b (q ∷ [])
   unfolding rule14 refuse earliest
   unknown-port h = ap (λ (t : Bool). refuse 14 (placed t 0)) (sym (le-leb (P b) q (omega (arith, ports))))
 
-  known-port : q < p → passed ≡ rule14 b (q ∷ [])
+  pub known-port : q < p → passed ≡ rule14 b (q ∷ [])
   unfolding rule14 refuse earliest
   known-port h = ap (λ (t : Bool). refuse 14 (placed t 0)) (sym (lt-leb (P b) q (omega (arith, ports))))
 

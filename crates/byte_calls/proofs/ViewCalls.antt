@@ -1,0 +1,93 @@
+-- Where a port's lines stand in the area, from the call's opening: a refusal passed up, 14, or the word that they start at and their count.
+-- Rests on convex's Calling and LineCalls, and lines_theory's Written (where sections start).
+use Prim.Native.Nat.{ℕ, _+_, _*_, _≤_, _<_}
+use native.Mathlib.Omega.{arith}
+use mathlib.Core.Path.{_≡_, refl, ap, ap₂, _∙_}
+use mathlib.Core.Logic.{_≢_}
+use mathlib.Core.List.{List, [], _∷_}
+use lib.ListN.{getD}
+use Rattle.paper.specs.Map.{N, L, P, portNode}
+use Rattle.paper.specs.Area.{Section, start, wordOf}
+use Rattle.paper.specs.Ports.{firstLine, lineCountAt}
+use Rattle.paper.specs.Refusals.{Ruling, passed, Answer, answer, answered, refused, decide, rule14}
+use Rattle.paper.specs.Calls.{Left, call, opening, areaAfter}
+use Rattle.paper.specs.Exports.{viewStart, viewAt}
+use Rattle.lines_theory.proofs.Written.{start-is}
+use Rattle.refusals.specs.Said.{ruled, ruling, refusedBy}
+use Rattle.refusals.specs.declared.Refusal.{Refusal}
+use Rattle.opening.specs.Opened.{OpenLeft, openedSaid}
+use Rattle.opening.specs.declared.Opened.{Opened}
+use Rattle.opening.specs.declared.Opened.the-variants.{Ready}
+use Rattle.tables.specs.Usable.{Usable, nodeStartsAt, linesAt}
+use Rattle.tables.proofs.Words.{count-few, lines-end, lines-rise}
+use Rattle.port_lines.proofs.PortLines.{node-known, lines-few}
+use Rattle.convex.proofs.Calling.{refused-call, usable-before, answered-still}
+use Rattle.convex.proofs.LineCalls.{unknown-port, known-port}
+
+-- nothing is written, so the area is what a call leaves of itself, and the answer is all there is
+pub opened : (b a : List ℕ) (o : Opened) → openedSaid o ≡ answer (decide (opening b a)) (N b, L b, P b) → OpenLeft b a o (areaAfter b a)
+opened b a o said = record { said = said; left = refl }
+
+module _ {b a : List ℕ} {o : Opened} (known : OpenLeft b a o (areaAfter b a)) (q : ℕ) where
+  rules : List Ruling
+  rules = rule14 b (q ∷ []) ∷ []
+
+  view : ℕ × ℕ
+  view = (viewStart b a q, lineCountAt b q)
+
+  answers : {x : Answer (ℕ × ℕ)} {m : List ℕ} → record { answer = x; area = m } ≡ call b a rules view → x ≡ viewAt b a q
+  unfolding viewAt call rules view
+  answers e = ap (λ (left : Left (ℕ × ℕ)). left .answer) e
+
+  pub view-refused : ruling (openedSaid o) ≢ passed → (x : Refusal) → ruled x ≡ ruling (openedSaid o) → refusedBy x ≡ viewAt b a q
+  unfolding ruling
+  view-refused out x e = answers (refused-call known out (refusedBy x) e rules view)
+
+  module _ {n l p : ℕ} (ready : o ≡ Ready n l p) where
+    ports : P b ≡ p
+    ports = usable-before known ready .read .ports
+
+    pub view-unknown : p ≤ q → refused 14 0 ≡ viewAt b a q
+    unfolding answer decide rules
+    view-unknown h =
+        answers (answered-still known ready rules view (ap (λ (u : Ruling). answer (decide (u ∷ [])) view) (unknown-port b ports q h)))
+
+    pub view-answered : q < p → {at count : ℕ} → at ≡ viewStart b a q → count ≡ lineCountAt b q → answered (at, count) ≡ viewAt b a q
+    unfolding answer decide rules view
+    view-answered h e f =
+        answers (
+        answered-still known ready rules view (
+        ap₂ (λ (x y : ℕ). answered (x, y)) e f
+        ∙ ap (λ (u : Ruling). answer (decide (u ∷ [])) view) (known-port b ports q h)
+        )
+        )
+
+-- ---- the word that they start at
+
+module _ {b a : List ℕ} {n l p : ℕ} (usable : Usable b a n l p) (port : ℕ) {v w f : ℕ} (node : v ≡ portNode b port) (word : w ≡ getD a (nodeStartsAt n + v) 0)
+    (first : f ≡ firstLine b port) where
+  pub start-so : linesAt n + w + f ≡ viewStart b a port
+  unfolding viewStart wordOf
+  start-so =
+      omega (
+        arith,
+        start-is b Section.linesOfNodes,
+        usable .read .nodes,
+        word ∙ ap (λ (j : ℕ). getD a j 0) there,
+        first,
+      )
+    where
+      there : nodeStartsAt n + v ≡ start b Section.nodeStarts + portNode b port
+      there = omega (arith, start-is b Section.nodeStarts, usable .read .nodes, node)
+
+  -- .. and how far behind its section's first word
+  pub start-few : port < p → {c : ℕ} → c ≡ lineCountAt b port → w + f ≤ 4 * l + 2 * n
+  start-few h count =
+      omega (
+        arith,
+        lines-few usable h node first count,
+        lines-rise usable v (node-known usable h node),
+        lines-end usable v (node-known usable h node),
+        count-few usable,
+        word,
+      )

@@ -1,0 +1,68 @@
+-- `byte_calls::line_convex_checker::nodes_in_intervals` meets its contract: an opening's refusal passed up, or the nodes are found on the opened area.
+-- Rests on convex's Calling and LineCalls, and Buffers.
+use native.Mathlib.Omega.{arith}
+use Rattle.convex.proofs.Calling.{is-refusal, usable, has-scratch}
+use Rattle.convex.proofs.LineCalls.{nodes-refused, nodes-answered}
+use borrow.Author.Needs.{needs}
+use Rattle.byte_calls.proofs.Buffers.{refused-bytes, answered-bytes}
+use Rattle.byte_calls.proofs.line_convex_checker.nodes_in_intervals.Statement.{statement}
+use Rattle.byte_calls.proofs.line_convex_checker.nodes_in_intervals.Tie as tie
+
+open-requires : tie.Need-open-requires
+open-requires c κs = search needs
+
+enum-known-opened : tie.Need-enum-known-opened
+enum-known-opened c = search needs
+
+refusal-requires : tie.Need-refusal-requires
+refusal-requires c κs =
+    is-refusal (c .before .before .before .open .result) (c .match .keys2)
+
+same-length : tie.Need-same-length
+same-length c = search needs
+
+returns : tie.Need-returns
+returns c =
+    let opened = c .before .before .before .before in
+    refused-bytes (opened .before .before .before .before .before .before .args .buffer .now) (λ i. omega (arith, opened .before .before .slice-known2 .given i))
+    (nodes-refused (opened .open .ensures) (is-refusal (opened .open .result) (c .before .match .keys2)) (c .refusal .result) (c .refusal .ensures) _ _ _)
+
+nodes-of-records-bytes-requires : tie.Need-nodes-of-records-bytes-requires
+nodes-of-records-bytes-requires c κs =
+    let told = c .before .before in
+    usable (told .before .before .before .before .before .open .ensures) (told .before .opened .given .1)
+
+clear-scratch-requires : tie.Need-clear-scratch-requires
+clear-scratch-requires c κs =
+    let asked = c .before .before .before .before .before in
+    let told = asked .before .before .before in
+    has-scratch (told .before .before .before .before .before .open .ensures) (told .before .opened .given .1) (asked .nodes-of-records-bytes .ensures .kept)
+
+same-length-2 : tie.Need-same-length-2
+same-length-2 c = search needs
+
+same-length-3 : tie.Need-same-length-3
+same-length-3 c = search needs
+
+returns-2 : tie.Need-returns-2
+returns-2 c =
+    let closed = c .before .before in
+    let asked = closed .before .before .before .before .before .before in
+    let told = asked .before .before .before in
+    answered-bytes (asked .nodes-of-records-bytes .ensures)
+    (nodes-answered (told .before .before .before .before .before .open .ensures) (told .before .opened .given .1) (closed .clear-scratch .ensures) _ _)
+
+pub nodes-in-intervals-spec : {M : Type 1} → statement M
+nodes-in-intervals-spec =
+    tie.close
+    (tie.spec
+    open-requires
+    enum-known-opened
+    refusal-requires
+    same-length
+    returns
+    nodes-of-records-bytes-requires
+    clear-scratch-requires
+    same-length-2
+    same-length-3
+    returns-2)

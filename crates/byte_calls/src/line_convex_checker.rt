@@ -1,0 +1,201 @@
+// The line checker's calls on lists, records and buffers whose words cross as bytes; the area is one of words (the exports read it from bytes).
+ghost use mathlib.Core.Path.{_≡_};
+ghost use Rattle.paper.specs.Calls.{
+  isNodeConvex,
+  isConvex,
+  isConvexByIntervals,
+  getIntervalsFromNodes,
+  tryExtendIntervals,
+  nodesInIntervals,
+};
+ghost use Rattle.paper.specs.Words.{wordsFrom};
+ghost use Rattle.line_checker.specs.Said.{lineSaid, intervalsSaid, extendSaid, nodesSaid};
+ghost use Rattle.convex.specs.Said.{portLinesSaid};
+ghost use Rattle.paper.specs.Exports.{viewAt};
+ghost use Rattle.byte_calls.specs.Buffered.{buffered};
+use byte_lists::check_list_bytes;
+use byte_lists::intervals_of_list_bytes;
+use byte_ports::check_list_with_ports_bytes;
+use byte_records::check_by_records_bytes;
+use byte_records::extend_records_bytes;
+use byte_records::nodes_of_records_bytes;
+use convex::line_convex_checker::PortLines;
+use line_checker::extend::ExtendAnswer;
+use line_checker::line_check::LineAnswer;
+use line_checker::list_intervals::IntervalsAnswer;
+use line_checker::nodes::NodesAnswer;
+use opening::Opened;
+use opening::ends::clear_scratch;
+use opening::ends::refusal;
+use opening::open;
+use opening::open_shared;
+use port_lines::first_line;
+use port_lines::line_count;
+use refusals::Refusal;
+use stepmap::ports::port_node;
+use words::section::word_at;
+
+// Line check of a list in bytes.
+pub fn is_node_convex(map: &[u8], area: &mut [u16], list: &[u8]) -> LineAnswer
+    ensures { λ r. ⌜ record { answer = lineSaid r; area = now (area .exit) }
+        ≡ isNodeConvex (now (map .entry)) (now (area .entry)) (wordsFrom (now (list .entry))) ⌝ }
+{
+    let opened = open(map, area);
+    let Opened::Ready {
+        nodes,
+        links,
+        ports,
+    } = opened
+    else {
+        return LineAnswer::Refused(refusal(opened));
+    };
+    let checked = check_list_bytes(map, nodes, links, ports, area, list);
+    clear_scratch(area, nodes, links, ports);
+    checked
+}
+
+// Line check with ports, all lists in bytes.
+pub fn is_convex(
+    map: &[u8],
+    area: &mut [u16],
+    list: &[u8],
+    inputs: &[u8],
+    outputs: &[u8],
+) -> LineAnswer
+    ensures { λ r. ⌜ record { answer = lineSaid r; area = now (area .exit) }
+        ≡ isConvex (now (map .entry)) (now (area .entry)) (wordsFrom (now (list .entry))) (wordsFrom (now (inputs .entry))) (wordsFrom (now (outputs .entry))) ⌝ }
+{
+    let opened = open(map, area);
+    let Opened::Ready {
+        nodes,
+        links,
+        ports,
+    } = opened
+    else {
+        return LineAnswer::Refused(refusal(opened));
+    };
+    let ported = check_list_with_ports_bytes(map, nodes, links, ports, area, list, inputs, outputs);
+    clear_scratch(area, nodes, links, ports);
+    ported
+}
+
+// Check by records in bytes.
+pub fn is_convex_by_intervals(
+    map: &[u8],
+    area: &mut [u16],
+    records: &[u8],
+    count: usize,
+) -> LineAnswer
+    ensures { λ r. ⌜ record { answer = lineSaid r; area = now (area .exit) }
+        ≡ isConvexByIntervals (now (map .entry)) (now (area .entry)) (wordsFrom (now (records .entry))) count ⌝ }
+{
+    let opened = open(map, area);
+    let Opened::Ready {
+        nodes,
+        links,
+        ports,
+    } = opened
+    else {
+        return LineAnswer::Refused(refusal(opened));
+    };
+    let recorded = check_by_records_bytes(map, nodes, links, ports, area, records, count);
+    clear_scratch(area, nodes, links, ports);
+    recorded
+}
+
+// Intervals of a list in bytes, written to a buffer of bytes.
+pub fn get_intervals_from_nodes(
+    map: &[u8],
+    area: &mut [u16],
+    list: &[u8],
+    buffer: &mut [u8],
+) -> IntervalsAnswer
+    ensures { λ r. ⌜ record { answer = intervalsSaid r; area = now (area .exit); buffer = now (buffer .exit) }
+        ≡ buffered (now (buffer .entry)) (getIntervalsFromNodes (now (map .entry)) (now (area .entry)) (wordsFrom (now (list .entry))) (wordsFrom (now (buffer .entry)))) ⌝ }
+{
+    let opened = open(map, area);
+    let Opened::Ready {
+        nodes,
+        links,
+        ports,
+    } = opened
+    else {
+        return IntervalsAnswer::Refused(refusal(opened));
+    };
+    let written = intervals_of_list_bytes(map, nodes, links, ports, area, list, buffer);
+    clear_scratch(area, nodes, links, ports);
+    written
+}
+
+// Extend: `count` records in bytes by one node, in their own buffer.
+pub fn try_extend_intervals(
+    map: &[u8],
+    area: &mut [u16],
+    records: &mut [u8],
+    count: usize,
+    node: usize,
+) -> ExtendAnswer
+    ensures { λ r. ⌜ record { answer = extendSaid r; area = now (area .exit); buffer = now (records .exit) }
+        ≡ buffered (now (records .entry)) (tryExtendIntervals (now (map .entry)) (now (area .entry)) (wordsFrom (now (records .entry))) count node) ⌝ }
+{
+    let opened = open(map, area);
+    let Opened::Ready {
+        nodes,
+        links,
+        ports,
+    } = opened
+    else {
+        return ExtendAnswer::Refused(refusal(opened));
+    };
+    let extended = extend_records_bytes(map, nodes, links, ports, area, records, count, node);
+    clear_scratch(area, nodes, links, ports);
+    extended
+}
+
+// Nodes in records in bytes, written to a buffer of bytes.
+pub fn nodes_in_intervals(
+    map: &[u8],
+    area: &mut [u16],
+    records: &[u8],
+    count: usize,
+    buffer: &mut [u8],
+) -> NodesAnswer
+    ensures { λ r. ⌜ record { answer = nodesSaid r; area = now (area .exit); buffer = now (buffer .exit) }
+        ≡ buffered (now (buffer .entry)) (nodesInIntervals (now (map .entry)) (now (area .entry)) (wordsFrom (now (records .entry))) count (wordsFrom (now (buffer .entry)))) ⌝ }
+{
+    let opened = open(map, area);
+    let Opened::Ready {
+        nodes,
+        links,
+        ports,
+    } = opened
+    else {
+        return NodesAnswer::Refused(refusal(opened));
+    };
+    let found = nodes_of_records_bytes(map, nodes, links, ports, area, records, count, buffer);
+    clear_scratch(area, nodes, links, ports);
+    found
+}
+
+// Where the lines at a port stand in the area: the word that they start at, and how many there are. Nothing is written.
+pub fn view_at_port(map: &[u8], area: &[u16], port: usize) -> PortLines
+    ensures { λ r. ⌜ portLinesSaid r ≡ viewAt (now (map .entry)) (now (area .entry)) port ⌝ }
+{
+    let opened = open_shared(map, area);
+    let Opened::Ready {
+        nodes,
+        links,
+        ports,
+    } = opened
+    else {
+        return PortLines::Refused(refusal(opened));
+    };
+    if ports <= port {
+        return PortLines::Refused(Refusal::UnknownPort(0));
+    }
+    let v = port_node(map, nodes, port);
+    let first = first_line(map, nodes, links, ports, port);
+    let count = line_count(map, nodes, links, ports, port);
+    let offset = 2 + 3 * nodes + word_at(area, 1 + 2 * nodes, v) + first;
+    PortLines::At(offset, count)
+}
