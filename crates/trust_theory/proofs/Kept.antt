@@ -21,7 +21,7 @@ module _ {b a : List ℕ} (t : Trusted b a) where
   unfolding areaAfter onRefusal
   left = ap (λ (u : Ruling). onRefusal u a (scratchCleared b a)) (untouched-passes t)
 
-  same-in-use : SameInUse b a (areaAfter b a)
+  pub same-in-use : SameInUse b a (areaAfter b a)
   same-in-use = rw left (scratch-cleared b a (t .acceptedTables .few))
 
   room-left : W b ≤ length (areaAfter b a)

@@ -1,0 +1,4 @@
+pub mod Standing
+pub mod Printed
+pub mod Begun
+pub mod Turns
