@@ -1,0 +1,54 @@
+-- `telling::tell_line` meets its contract: yes or no with the count, or a refusal.
+-- Rests on Told.
+use Prim.Native.Nat.{ℕ}
+use mathlib.Core.List.{[], _∷_}
+use mathlib.Core.Path.{refl, ap}
+use Rattle.paper.specs.Exports.{inLineReply}
+use Rattle.line_checker.specs.Said.{lineSaid}
+use Rattle.telling.proofs.Told.{refusal-told, answer-told}
+use borrow.Author.Needs.{needs}
+use Rattle.telling.proofs.tell_line.Statement.{statement}
+use Rattle.telling.proofs.tell_line.Tie as tie
+
+enum-known-answer : tie.Need-enum-known-answer
+enum-known-answer c = search needs
+
+put-requires : tie.Need-put-requires
+put-requires c κs = search needs
+
+enum-known-answer-2 : tie.Need-enum-known-answer-2
+enum-known-answer-2 c = search needs
+
+put-requires-2 : tie.Need-put-requires-2
+put-requires-2 c κs = search needs
+
+enum-known-answer-3 : tie.Need-enum-known-answer-3
+enum-known-answer-3 c = search needs
+
+tell-refusal-requires : tie.Need-tell-refusal-requires
+tell-refusal-requires c κs = search needs
+
+returns : tie.Need-returns
+unfolding inLineReply
+returns c = answer-told inLineReply _ (ap lineSaid (c .before .before .before .answer .given .1)) refl (ap (λ (n : ℕ). n ∷ []) (c .put .ensures))
+
+returns-2 : tie.Need-returns-2
+unfolding inLineReply
+returns-2 c = answer-told inLineReply _ (ap lineSaid (c .before .before .before .answer2 .given .1)) refl (ap (λ (n : ℕ). n ∷ []) (c .put2 .ensures))
+
+returns-3 : tie.Need-returns-3
+returns-3 c = refusal-told inLineReply _ _ (ap lineSaid (c .before .before .before .before .answer3 .given .1)) (c .tell-refusal .ensures)
+
+pub tell-line-spec : {M : Type 1} → statement M
+tell-line-spec =
+    tie.close
+    (tie.spec
+    enum-known-answer
+    put-requires
+    enum-known-answer-2
+    put-requires-2
+    enum-known-answer-3
+    tell-refusal-requires
+    returns
+    returns-2
+    returns-3)

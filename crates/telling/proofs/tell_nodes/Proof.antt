@@ -1,0 +1,41 @@
+-- `telling::tell_nodes` meets its contract: how many nodes, or a refusal.
+-- Rests on Told.
+use Prim.Native.Nat.{ℕ}
+use mathlib.Core.List.{[], _∷_}
+use mathlib.Core.Path.{refl, ap}
+use Rattle.paper.specs.Exports.{inCount}
+use Rattle.line_checker.specs.Said.{nodesSaid}
+use Rattle.telling.proofs.Told.{refusal-told, answer-told}
+use borrow.Author.Needs.{needs}
+use Rattle.telling.proofs.tell_nodes.Statement.{statement}
+use Rattle.telling.proofs.tell_nodes.Tie as tie
+
+enum-known-answer : tie.Need-enum-known-answer
+enum-known-answer c = search needs
+
+put-requires : tie.Need-put-requires
+put-requires c κs = search needs
+
+enum-known-answer-2 : tie.Need-enum-known-answer-2
+enum-known-answer-2 c = search needs
+
+tell-refusal-requires : tie.Need-tell-refusal-requires
+tell-refusal-requires c κs = search needs
+
+returns : tie.Need-returns
+unfolding inCount
+returns c = answer-told inCount _ (ap nodesSaid (c .before .before .before .answer .given .1)) refl (ap (λ (n : ℕ). n ∷ []) (c .put .ensures))
+
+returns-2 : tie.Need-returns-2
+returns-2 c = refusal-told inCount _ _ (ap nodesSaid (c .before .before .before .before .answer2 .given .1)) (c .tell-refusal .ensures)
+
+pub tell-nodes-spec : {M : Type 1} → statement M
+tell-nodes-spec =
+    tie.close
+    (tie.spec
+    enum-known-answer
+    put-requires
+    enum-known-answer-2
+    tell-refusal-requires
+    returns
+    returns-2)

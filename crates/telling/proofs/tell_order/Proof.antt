@@ -1,0 +1,44 @@
+-- `telling::tell_order` meets its contract: yes or no, or a refusal.
+-- Rests on Told.
+use mathlib.Core.Path.{refl, ap}
+use Rattle.paper.specs.Exports.{inReply}
+use Rattle.topo_checker.specs.Said.{topoSaid}
+use Rattle.telling.proofs.Told.{refusal-told, answer-told}
+use borrow.Author.Needs.{needs}
+use Rattle.telling.proofs.tell_order.Statement.{statement}
+use Rattle.telling.proofs.tell_order.Tie as tie
+
+enum-told : tie.Need-enum-told
+enum-told c = search needs
+
+enum-told-2 : tie.Need-enum-told-2
+enum-told-2 c = search needs
+
+enum-known-answer : tie.Need-enum-known-answer
+enum-known-answer c = search needs
+
+tell-refusal-requires : tie.Need-tell-refusal-requires
+tell-refusal-requires c κs = search needs
+
+returns : tie.Need-returns
+unfolding inReply
+returns c = answer-told inReply _ (ap topoSaid (c .enum-told .given .1)) refl refl
+
+returns-2 : tie.Need-returns-2
+unfolding inReply
+returns-2 c = answer-told inReply _ (ap topoSaid (c .enum-told2 .given .1)) refl refl
+
+returns-3 : tie.Need-returns-3
+returns-3 c = refusal-told inReply _ _ (ap topoSaid (c .before .before .before .before .answer .given .1)) (c .tell-refusal .ensures)
+
+pub tell-order-spec : {M : Type 1} → statement M
+tell-order-spec =
+    tie.close
+    (tie.spec
+    enum-told
+    enum-told-2
+    enum-known-answer
+    tell-refusal-requires
+    returns
+    returns-2
+    returns-3)
