@@ -1,0 +1,137 @@
+//! The exported functions as the static library has them (crates/varddohas): a slice is a pointer and its length in bytes.
+
+extern "C" {
+    pub fn varddohas_prepare(
+        map: *const u8,
+        map_bytes: usize,
+        area: *mut u8,
+        area_bytes: usize,
+        lines: *mut u64,
+        number: *mut u64,
+        place: *mut u64,
+    ) -> u64;
+    pub fn varddohas_line_is_node_convex(
+        map: *const u8,
+        map_bytes: usize,
+        area: *mut u8,
+        area_bytes: usize,
+        list: *const u8,
+        list_bytes: usize,
+        count: *mut u64,
+        number: *mut u64,
+        place: *mut u64,
+    ) -> u64;
+    pub fn varddohas_line_is_convex(
+        map: *const u8,
+        map_bytes: usize,
+        area: *mut u8,
+        area_bytes: usize,
+        list: *const u8,
+        list_bytes: usize,
+        inputs: *const u8,
+        inputs_bytes: usize,
+        outputs: *const u8,
+        outputs_bytes: usize,
+        count: *mut u64,
+        number: *mut u64,
+        place: *mut u64,
+    ) -> u64;
+    pub fn varddohas_topo_is_node_convex(
+        map: *const u8,
+        map_bytes: usize,
+        area: *mut u8,
+        area_bytes: usize,
+        list: *const u8,
+        list_bytes: usize,
+        number: *mut u64,
+        place: *mut u64,
+    ) -> u64;
+    pub fn varddohas_topo_is_convex(
+        map: *const u8,
+        map_bytes: usize,
+        area: *mut u8,
+        area_bytes: usize,
+        list: *const u8,
+        list_bytes: usize,
+        inputs: *const u8,
+        inputs_bytes: usize,
+        outputs: *const u8,
+        outputs_bytes: usize,
+        number: *mut u64,
+        place: *mut u64,
+    ) -> u64;
+    pub fn varddohas_get_intervals_from_nodes(
+        map: *const u8,
+        map_bytes: usize,
+        area: *mut u8,
+        area_bytes: usize,
+        list: *const u8,
+        list_bytes: usize,
+        buffer: *mut u8,
+        buffer_bytes: usize,
+        count: *mut u64,
+        number: *mut u64,
+        place: *mut u64,
+    ) -> u64;
+    pub fn varddohas_is_convex_by_intervals(
+        map: *const u8,
+        map_bytes: usize,
+        area: *mut u8,
+        area_bytes: usize,
+        records: *const u8,
+        records_bytes: usize,
+        many: usize,
+        count: *mut u64,
+        number: *mut u64,
+        place: *mut u64,
+    ) -> u64;
+    pub fn varddohas_try_extend_intervals(
+        map: *const u8,
+        map_bytes: usize,
+        area: *mut u8,
+        area_bytes: usize,
+        records: *mut u8,
+        records_bytes: usize,
+        many: usize,
+        node: usize,
+        count: *mut u64,
+        number: *mut u64,
+        place: *mut u64,
+    ) -> u64;
+    pub fn varddohas_nodes_in_intervals(
+        map: *const u8,
+        map_bytes: usize,
+        area: *mut u8,
+        area_bytes: usize,
+        records: *const u8,
+        records_bytes: usize,
+        many: usize,
+        buffer: *mut u8,
+        buffer_bytes: usize,
+        count: *mut u64,
+        number: *mut u64,
+        place: *mut u64,
+    ) -> u64;
+    pub fn varddohas_lines_at_port(
+        map: *const u8,
+        map_bytes: usize,
+        area: *mut u8,
+        area_bytes: usize,
+        port: usize,
+        first: *mut u64,
+        count: *mut u64,
+        number: *mut u64,
+        place: *mut u64,
+    ) -> u64;
+    pub fn varddohas_view_lines_at_port(
+        map: *const u8,
+        map_bytes: usize,
+        area: *const u8,
+        area_bytes: usize,
+        port: usize,
+        offset: *mut u64,
+        count: *mut u64,
+        number: *mut u64,
+        place: *mut u64,
+    ) -> u64;
+}
