@@ -25,14 +25,20 @@ pub fn map(random: &mut Random, steps: usize) -> StepMap {
 
 /// A map of the largest size: 512 nodes, 2048 links, 4096 ports. Like those of [`map`] otherwise.
 pub fn largest(random: &mut Random) -> StepMap {
-    let mut nodes = vec![Node { inputs: 0, outputs: 0 }; 512];
-    let line_up = random.permutation(512);
-    let mut links = links_along(random, &line_up, &mut nodes, 2048);
-    let mut ports: usize = nodes.iter().map(|node| node.inputs + node.outputs).sum();
-    while ports < 4096 {
-        let node = &mut nodes[random.below(512)];
+    of_size(random, 512, 2048, 4096)
+}
+
+/// A map with so many nodes and links, and with so many ports or, where its links need more, with those. Like those of [`map`] otherwise.
+pub fn of_size(random: &mut Random, nodes: usize, links: usize, ports: usize) -> StepMap {
+    let count = nodes;
+    let mut nodes = vec![Node { inputs: 0, outputs: 0 }; count];
+    let line_up = random.permutation(count);
+    let mut links = links_along(random, &line_up, &mut nodes, links);
+    let mut so_far: usize = nodes.iter().map(|node| node.inputs + node.outputs).sum();
+    while so_far < ports {
+        let node = &mut nodes[random.below(count)];
         *(if random.one_in(2) { &mut node.inputs } else { &mut node.outputs }) += 1;
-        ports += 1;
+        so_far += 1;
     }
     for (number, &node) in nodes.iter().enumerate() {
         permute_ports(random, number, node, &mut links);
@@ -122,7 +128,7 @@ pub fn list(random: &mut Random, map: &StepMap) -> Vec<usize> {
 }
 
 /// A node and others around it, each linked to one before it; at most `size`.
-fn group(random: &mut Random, map: &StepMap, start: usize, size: usize) -> Vec<usize> {
+pub fn group(random: &mut Random, map: &StepMap, start: usize, size: usize) -> Vec<usize> {
     let mut group = vec![start];
     while group.len() < size {
         let around = group.iter().flat_map(|&node| map.all_neighbours(NodeIndex::new(node)));

@@ -5,6 +5,7 @@ use crate::map_bytes::{self, Records};
 use crate::oracle::{order, Oracle};
 use crate::recording::Recording;
 use crate::step_map::StepMap;
+use std::collections::BTreeSet;
 
 /// A refusal of document 01.
 #[derive(Debug, Clone, Copy, PartialEq, Eq)]
@@ -88,14 +89,15 @@ fn starts(lists: &[Vec<usize>]) -> Vec<usize> {
 }
 
 /// Refusals 4 and 5: the first bad link decides, and for one link 4 comes before 5.
-fn check_links(map: &Records) -> Result<(), Refusal> {
+pub fn check_links(map: &Records) -> Result<(), Refusal> {
+    let mut linked = BTreeSet::new();
     for (place, link) in map.links.iter().enumerate() {
         let from = map.nodes.get(link.from).is_some_and(|node| link.output < node.outputs);
         let to = map.nodes.get(link.to).is_some_and(|node| link.input < node.inputs);
         if !from || !to {
             return Err(Refusal { number: 4, place });
         }
-        if map.links[..place].iter().any(|earlier| (earlier.to, earlier.input) == (link.to, link.input)) {
+        if !linked.insert((link.to, link.input)) {
             return Err(Refusal { number: 5, place });
         }
     }

@@ -74,14 +74,20 @@ impl Recording {
     pub fn of_tables(oracle: &Oracle) -> Self {
         let count = oracle.map().nodes().len();
         let lines = oracle.line_count();
+        let order = oracle.order();
+        let lines_of_nodes: Vec<Vec<usize>> = (0..count).map(|node| oracle.lines_of(node)).collect();
+        let mut nodes_of_lines = vec![Vec::new(); lines];
+        for &node in &order {
+            lines_of_nodes[node].iter().for_each(|&line| nodes_of_lines[line].push(node));
+        }
         Self {
             nodes: oracle.map().nodes().to_vec(),
             links: oracle.map().links().to_vec(),
             lines,
-            order: oracle.order(),
+            order,
             positions: (0..count).map(|node| oracle.position(node)).collect(),
-            lines_of_nodes: (0..count).map(|node| oracle.lines_of(node)).collect(),
-            nodes_of_lines: (0..lines).map(|line| oracle.nodes_of(line)).collect(),
+            lines_of_nodes,
+            nodes_of_lines,
             asked: Vec::new(),
         }
     }

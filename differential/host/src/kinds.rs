@@ -1,0 +1,10 @@
+//! The kinds of input that are compared. Those of `paper`, `examples` and `limits` come once, the others round by round.
+
+pub mod drawn;
+pub mod examples;
+pub mod limits;
+pub mod maps;
+pub mod other_tables;
+pub mod paper;
+pub mod small;
+pub mod tables;
