@@ -1,0 +1,123 @@
+-- `list_questions::same_order_ports` is safe: the three lists lie within the line.
+-- Rests on recorded's Bounds.
+use borrow.Author.Needs.{needs}
+use Rattle.recorded.proofs.Bounds.{within}
+use Rattle.list_questions.proofs.same_order_ports.Statement.{statement}
+use Rattle.list_questions.proofs.same_order_ports.Tie as tie
+
+list-at-requires : tie.Need-list-at-requires
+list-at-requires c κs = search needs
+
+enum-known-list : tie.Need-enum-known-list
+enum-known-list c = search needs
+
+enum-told : tie.Need-enum-told
+enum-told c = search needs
+
+returns : tie.Need-returns
+returns c = search needs
+
+list-at-requires-2 : tie.Need-list-at-requires-2
+list-at-requires-2 c κs = search needs
+
+enum-known-inputs : tie.Need-enum-known-inputs
+enum-known-inputs c = search needs
+
+enum-told-2 : tie.Need-enum-told-2
+enum-told-2 c = search needs
+
+returns-2 : tie.Need-returns-2
+returns-2 c = search needs
+
+list-at-requires-3 : tie.Need-list-at-requires-3
+list-at-requires-3 c κs = search needs
+
+enum-known-outputs : tie.Need-enum-known-outputs
+enum-known-outputs c = search needs
+
+enum-told-3 : tie.Need-enum-told-3
+enum-told-3 c = search needs
+
+returns-3 : tie.Need-returns-3
+returns-3 c = search needs
+
+mul-is-convex : tie.Need-mul-is-convex
+mul-is-convex c = let part = within _ _ (c .before .before .before .before .before .before .before .before .before .before .before .before .list-at .ensures) (c .before .before .before .before .before .before .before .before .before .before .list .given .1) in search needs
+
+sub-is-convex : tie.Need-sub-is-convex
+sub-is-convex c = let part = within _ _ (c .before .before .before .before .before .before .before .before .before .before .before .before .list-at .ensures) (c .before .before .before .before .before .before .before .before .before .before .list .given .1) in search needs
+
+part-is-convex-start : tie.Need-part-is-convex-start
+part-is-convex-start c = let part = within _ _ (c .before .before .before .before .before .before .before .before .before .before .before .before .list-at .ensures) (c .before .before .before .before .before .before .before .before .before .before .list .given .1) in search needs
+
+part-is-convex-end : tie.Need-part-is-convex-end
+part-is-convex-end c = let part = within _ _ (c .before .before .before .before .before .before .before .before .before .before .before .before .list-at .ensures) (c .before .before .before .before .before .before .before .before .before .before .list .given .1) in search needs
+
+mul-is-convex-2 : tie.Need-mul-is-convex-2
+mul-is-convex-2 c = let part = within _ _ (c .before .before .before .before .before .before .before .before .before .list-at2 .ensures) (c .before .before .before .before .before .before .before .inputs .given .1) in search needs
+
+sub-is-convex-2 : tie.Need-sub-is-convex-2
+sub-is-convex-2 c = let part = within _ _ (c .before .before .before .before .before .before .before .before .before .list-at2 .ensures) (c .before .before .before .before .before .before .before .inputs .given .1) in search needs
+
+part-is-convex-start-2 : tie.Need-part-is-convex-start-2
+part-is-convex-start-2 c = let part = within _ _ (c .before .before .before .before .before .before .before .before .before .list-at2 .ensures) (c .before .before .before .before .before .before .before .inputs .given .1) in search needs
+
+part-is-convex-end-2 : tie.Need-part-is-convex-end-2
+part-is-convex-end-2 c = let part = within _ _ (c .before .before .before .before .before .before .before .before .before .list-at2 .ensures) (c .before .before .before .before .before .before .before .inputs .given .1) in search needs
+
+mul-is-convex-3 : tie.Need-mul-is-convex-3
+mul-is-convex-3 c = let part = within _ _ (c .before .before .before .before .before .before .list-at3 .ensures) (c .before .before .before .before .outputs .given .1) in search needs
+
+sub-is-convex-3 : tie.Need-sub-is-convex-3
+sub-is-convex-3 c = let part = within _ _ (c .before .before .before .before .before .before .list-at3 .ensures) (c .before .before .before .before .outputs .given .1) in search needs
+
+part-is-convex-start-3 : tie.Need-part-is-convex-start-3
+part-is-convex-start-3 c = let part = within _ _ (c .before .before .before .before .before .before .list-at3 .ensures) (c .before .before .before .before .outputs .given .1) in search needs
+
+part-is-convex-end-3 : tie.Need-part-is-convex-end-3
+part-is-convex-end-3 c = let part = within _ _ (c .before .before .before .before .before .before .list-at3 .ensures) (c .before .before .before .before .outputs .given .1) in search needs
+
+is-convex-requires : tie.Need-is-convex-requires
+is-convex-requires c κs = search needs
+
+is-order-answer-requires : tie.Need-is-order-answer-requires
+is-order-answer-requires c κs = let part = within _ _ (c .before .before .before .before .before .before .before .before .before .before .list-at3 .ensures) (c .before .before .before .before .before .before .before .before .outputs .given .1) in search needs
+
+same-length : tie.Need-same-length
+same-length c = search needs
+
+returns-4 : tie.Need-returns-4
+returns-4 c = search needs
+
+pub same-order-ports-spec : {M : Type 1} → statement M
+same-order-ports-spec =
+    tie.close
+    (tie.spec
+    list-at-requires
+    enum-known-list
+    enum-told
+    returns
+    list-at-requires-2
+    enum-known-inputs
+    enum-told-2
+    returns-2
+    list-at-requires-3
+    enum-known-outputs
+    enum-told-3
+    returns-3
+    mul-is-convex
+    sub-is-convex
+    part-is-convex-start
+    part-is-convex-end
+    mul-is-convex-2
+    sub-is-convex-2
+    part-is-convex-start-2
+    part-is-convex-end-2
+    mul-is-convex-3
+    sub-is-convex-3
+    part-is-convex-start-3
+    part-is-convex-end-3
+    is-convex-requires
+    is-order-answer-requires
+    same-length
+    returns-4)

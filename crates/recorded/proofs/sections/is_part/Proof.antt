@@ -1,0 +1,56 @@
+-- `recorded::sections::is_part` is safe: a part that was given does not end before it begins.
+-- Rests on Bounds.
+use native.Mathlib.Omega.{arith}
+use borrow.Author.Needs.{needs}
+use Rattle.recorded.proofs.Bounds.{in-order}
+use Rattle.recorded.proofs.sections.is_part.Statement.{statement}
+use Rattle.recorded.proofs.sections.is_part.Tie as tie
+
+enum-known-part : tie.Need-enum-known-part
+enum-known-part c = search needs
+
+enum-told : tie.Need-enum-told
+enum-told c = search needs
+
+returns : tie.Need-returns
+returns c = search needs
+
+returns-2 : tie.Need-returns-2
+returns-2 c = search needs
+
+returns-3 : tie.Need-returns-3
+returns-3 c = search needs
+
+mul-is-list : tie.Need-mul-is-list
+mul-is-list c = omega (arith, in-order (c .before .before .before .before .before .before .before .pre) (c .before .before .before .part .given .1))
+
+sub-is-list : tie.Need-sub-is-list
+sub-is-list c = in-order (c .before .before .before .before .before .before .before .pre) (c .before .before .before .part .given .1)
+
+part-is-list-start : tie.Need-part-is-list-start
+part-is-list-start c = let ordered = in-order (c .before .before .before .before .before .before .before .pre) (c .before .before .before .part .given .1) in search needs
+
+part-is-list-end : tie.Need-part-is-list-end
+part-is-list-end c = search needs
+
+is-list-requires : tie.Need-is-list-requires
+is-list-requires c κs = search needs
+
+returns-4 : tie.Need-returns-4
+returns-4 c = search needs
+
+pub is-part-spec : {M : Type 1} → statement M
+is-part-spec =
+    tie.close
+    (tie.spec
+    enum-known-part
+    enum-told
+    returns
+    returns-2
+    returns-3
+    mul-is-list
+    sub-is-list
+    part-is-list-start
+    part-is-list-end
+    is-list-requires
+    returns-4)

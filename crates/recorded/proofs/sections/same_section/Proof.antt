@@ -1,0 +1,52 @@
+-- `recorded::sections::same_section` is safe: a map that was read has sizes within the limits, and K is a word.
+-- Rests on stepmap's Answers.
+use native.Mathlib.Omega.{arith}
+use mathlib.Core.Path.{sym, ap, _∙_}
+use borrow.Author.Needs.{needs}
+use Rattle.stepmap.proofs.Answers.{read-well}
+use Rattle.stepmap.specs.Said.{mapSaid}
+use Rattle.recorded.proofs.sections.same_section.Statement.{statement}
+use Rattle.recorded.proofs.sections.same_section.Tie as tie
+
+read-map-requires : tie.Need-read-map-requires
+read-map-requires c κs = search needs
+
+enum-known-found : tie.Need-enum-known-found
+enum-known-found c = search needs
+
+returns : tie.Need-returns
+returns c = search needs
+
+returns-2 : tie.Need-returns-2
+returns-2 c = search needs
+
+shared-slice-read-wide : tie.Need-shared-slice-read-wide
+shared-slice-read-wide c = search needs
+
+wide-requires : tie.Need-wide-requires
+wide-requires c κs = search needs
+
+section-requires : tie.Need-section-requires
+section-requires c κs =
+    let well = read-well _ _ _ _ (ap mapSaid (sym (c .before .before .before .before .found .given .1)) ∙ c .before .before .before .before .before .before .read-map .ensures) in
+    (well .few-nodes, well .few-links, omega (arith, c .wide .ensures, c .before .shared-slice-known4 .given 0))
+
+is-part-requires : tie.Need-is-part-requires
+is-part-requires c κs = search needs
+
+returns-3 : tie.Need-returns-3
+returns-3 c = search needs
+
+pub same-section-spec : {M : Type 1} → statement M
+same-section-spec =
+    tie.close
+    (tie.spec
+    read-map-requires
+    enum-known-found
+    returns
+    returns-2
+    shared-slice-read-wide
+    wide-requires
+    section-requires
+    is-part-requires
+    returns-3)

@@ -1,0 +1,111 @@
+-- `recorded::sections::section` answers parts that do not end before they begin.
+-- Rests on Parts.
+use native.Mathlib.Omega.{arith}
+use borrow.Author.Needs.{needs}
+use Rattle.recorded.specs.Parts.{Ordered}
+use Rattle.recorded.proofs.sections.section.Statement.{statement}
+use Rattle.recorded.proofs.sections.section.Tie as tie
+
+add-positions : tie.Need-add-positions
+add-positions c = search needs
+
+add-node-starts : tie.Need-add-node-starts
+add-node-starts c = search needs
+
+add-node-lines : tie.Need-add-node-lines
+add-node-lines c = search needs
+
+add-node-lines-2 : tie.Need-add-node-lines-2
+add-node-lines-2 c = search needs
+
+mul-line-starts : tie.Need-mul-line-starts
+mul-line-starts c = search needs
+
+add-line-starts : tie.Need-add-line-starts
+add-line-starts c = search needs
+
+add-line-starts-2 : tie.Need-add-line-starts-2
+add-line-starts-2 c = search needs
+
+add-line-nodes : tie.Need-add-line-nodes
+add-line-nodes c = search needs
+
+add-line-nodes-2 : tie.Need-add-line-nodes-2
+add-line-nodes-2 c = search needs
+
+add-line-nodes-3 : tie.Need-add-line-nodes-3
+add-line-nodes-3 c = search needs
+
+add-t13 : tie.Need-add-t13
+add-t13 c = search needs
+
+add-t14 : tie.Need-add-t14
+add-t14 c = search needs
+
+add-t15 : tie.Need-add-t15
+add-t15 c = search needs
+
+add-t16 : tie.Need-add-t16
+add-t16 c = search needs
+
+add-t17 : tie.Need-add-t17
+add-t17 c = search needs
+
+add-t18 : tie.Need-add-t18
+add-t18 c = search needs
+
+returns : tie.Need-returns
+unfolding Ordered
+returns c = omega arith
+
+returns-2 : tie.Need-returns-2
+unfolding Ordered
+returns-2 c = omega arith
+
+returns-3 : tie.Need-returns-3
+unfolding Ordered
+returns-3 c = omega arith
+
+returns-4 : tie.Need-returns-4
+unfolding Ordered
+returns-4 c = omega arith
+
+returns-5 : tie.Need-returns-5
+unfolding Ordered
+returns-5 c = omega arith
+
+returns-6 : tie.Need-returns-6
+unfolding Ordered
+returns-6 c = omega arith
+
+returns-7 : tie.Need-returns-7
+unfolding Ordered
+returns-7 c = omega arith
+
+pub section-spec : {M : Type 1} → statement M
+section-spec =
+    tie.close
+    (tie.spec
+    add-positions
+    add-node-starts
+    add-node-lines
+    add-node-lines-2
+    mul-line-starts
+    add-line-starts
+    add-line-starts-2
+    add-line-nodes
+    add-line-nodes-2
+    add-line-nodes-3
+    add-t13
+    add-t14
+    add-t15
+    add-t16
+    add-t17
+    add-t18
+    returns
+    returns-2
+    returns-3
+    returns-4
+    returns-5
+    returns-6
+    returns-7)
