@@ -53,11 +53,11 @@ fn line_room() -> [u8; 128]
     [0u8; 128]
 }
 
-// Reads the map; a file that is missing counts as no bytes.
-fn read_steps(room: &mut [u8]) -> usize
+// Reads the map's file; one that is missing counts as no bytes.
+fn read_steps(name: &[u8], room: &mut [u8]) -> usize
     ensures { λ r. ⌜ Counts r (now (room .exit)) ⌝ }
 {
-    let file = os::open_read(b"steps.pgt");
+    let file = os::open_read(name);
     if file < 0 {
         return 0;
     }
@@ -103,11 +103,17 @@ fn ask(map: &[u8], input: &[u8]) {
     }
 }
 
-// The whole program. A map or an input that fills its room is too long, whatever comes after (the law `enough-read`, proofs/Starts).
-pub fn run() {
+// The whole program on a map's file and an open input. A map or an input that fills its room is too long, whatever comes after (the law
+// `enough-read`, proofs/Starts).
+pub fn run_on(name: &[u8], from: i32) {
     let mut map = map_room();
-    let size = read_steps(&mut map);
+    let size = read_steps(name, &mut map);
     let mut input = input_room();
-    let count = io::read_full(STDIN_FILENO, &mut input);
+    let count = io::read_full(from, &mut input);
     ask(&map[..size], &input[..count]);
+}
+
+// The program `ask`.
+pub fn run() {
+    run_on(b"steps.pgt", STDIN_FILENO);
 }
