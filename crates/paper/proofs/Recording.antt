@@ -4,12 +4,13 @@ use Prim.Native.Nat.{ℕ, _+_, _*_}
 use mathlib.Core.Bool.{Bool, true, false, _&&_}
 use mathlib.Core.List.{List, [], _∷_, _++_, map, flatMap}
 use lib.ListN.{length, getD, take, drop, replicate}
+use lib.Seq.{sets}
 use lib.Dec.{eqb}
 use Rattle.lists.specs.Lists.{upto, all, same}
 use Rattle.lists.specs.Ascii.{ascii}
 use Rattle.paper.specs.Map.{nodeBytes, linkBytes}
 use Rattle.paper.specs.Words.{bytesFrom}
-use Rattle.paper.specs.Area.{W, orderOf, position, linesOf, nodesOf}
+use Rattle.paper.specs.Area.{W, Section, start, size, orderOf, position, linesOf, nodesOf}
 use Rattle.paper.specs.Intervals.{Reply, Yes, No}
 use Rattle.paper.specs.Refusals.{Answer, refused, answered, wholeRecords}
 use Rattle.paper.specs.Calls.{
@@ -113,28 +114,32 @@ isGiven (answered nothing) old new (given ws) = false
 isGiven (answered nothing) old new none = same new old
 isGiven (answered (wrote k)) old new none = false
 isGiven (answered (wrote k)) old new (given ws) =
-    eqb (3 * k) (length ws) && same (take (length ws) new) ws && eqb (length new) (length old)
+    eqb (3 * k) (length ws) && same new (ws ++ drop (length ws) old)
 
 room : List ℕ → List ℕ
 room ws = ws ++ replicate 30 9
 
--- one question of the map b with the prepared area a, which every call leaves as it was
-unfoldable pub agrees : List ℕ → List ℕ → Asked → Bool
+-- an area whose scratch holds 7 in every word
+used : List ℕ → List ℕ → List ℕ
+used b a = sets a (start b Section.scratch) (replicate (size b Section.scratch) 7)
+
+-- one question of the map b: it is asked with the area d, whose scratch was used, and leaves the prepared area a, whose scratch is 0
+unfoldable pub agrees : List ℕ → List ℕ → List ℕ → Asked → Bool
 unfolding sameReply isChecked isReply isNumber isPlace isGiven room
-agrees b a (line s r c) = let x = isNodeConvex b a s in isChecked (x .answer) r c && same (x .area) a
-agrees b a (order s r) = let x = topoIsNodeConvex b a s in isReply (x .answer) r && same (x .area) a
-agrees b a (intervals s g) =
-    let x = getIntervalsFromNodes b a s (room []) in isGiven (x .answer) (room []) (x .buffer) g && same (x .area) a
-agrees b a (byRecords ws r c) =
-    let x = isConvexByIntervals b a ws (wholeRecords ws) in isChecked (x .answer) r c && same (x .area) a
-agrees b a (extend ws v g) =
-    let x = tryExtendIntervals b a (room ws) (wholeRecords ws) v in isGiven (x .answer) (room ws) (x .buffer) g && same (x .area) a
-agrees b a (nodesIn ws vs) =
-    let x = nodesInIntervals b a ws (wholeRecords ws) (room []) in
-    isNumber (x .answer) (length vs) && same (take (length vs) (x .buffer)) vs && same (x .area) a
-agrees b a (port p i c ls) = let x = linesAtPort b a p in isPlace (x .answer) i c && same (viewOfPort b a p) ls && same (x .area) a
-agrees b a (linePorts s i o r c) = let x = isConvex b a s i o in isChecked (x .answer) r c && same (x .area) a
-agrees b a (orderPorts s i o r) = let x = topoIsConvex b a s i o in isReply (x .answer) r && same (x .area) a
+agrees b d a (line s r c) = let x = isNodeConvex b d s in isChecked (x .answer) r c && same (x .area) a
+agrees b d a (order s r) = let x = topoIsNodeConvex b d s in isReply (x .answer) r && same (x .area) a
+agrees b d a (intervals s g) =
+    let x = getIntervalsFromNodes b d s (room []) in isGiven (x .answer) (room []) (x .buffer) g && same (x .area) a
+agrees b d a (byRecords ws r c) =
+    let x = isConvexByIntervals b d ws (wholeRecords ws) in isChecked (x .answer) r c && same (x .area) a
+agrees b d a (extend ws v g) =
+    let x = tryExtendIntervals b d (room ws) (wholeRecords ws) v in isGiven (x .answer) (room ws) (x .buffer) g && same (x .area) a
+agrees b d a (nodesIn ws vs) =
+    let x = nodesInIntervals b d ws (wholeRecords ws) (room []) in
+    isNumber (x .answer) (length vs) && same (x .buffer) (vs ++ drop (length vs) (room [])) && same (x .area) a
+agrees b d a (port p i c ls) = let x = linesAtPort b d p in isPlace (x .answer) i c && same (viewOfPort b d p) ls && same (x .area) a
+agrees b d a (linePorts s i o r c) = let x = isConvex b d s i o in isChecked (x .answer) r c && same (x .area) a
+agrees b d a (orderPorts s i o r) = let x = topoIsConvex b d s i o in isReply (x .answer) r && same (x .area) a
 
 -- the tables that preparing left are the recorded ones, list by list
 laid : List ℕ → List ℕ → Recording → Bool
@@ -147,9 +152,9 @@ laid b a m =
 
 -- preparing an area of W words and two more, all 9, leaves the recorded tables and the two words; then every question agrees
 unfoldable pub holds : Recording → Bool
-unfolding agrees isNumber laid mapBytes
+unfolding agrees isNumber laid mapBytes used
 holds m =
     let b = mapBytes (m .nodes) (m .links) in
     let x = prepare b (replicate (W b + 2) 9) in
     let a = x .area in
-    isNumber (x .answer) (m .lines) && laid b a m && same (drop (W b) a) (9 ∷ 9 ∷ []) && all (agrees b a) (m .asked)
+    isNumber (x .answer) (m .lines) && laid b a m && same (drop (W b) a) (9 ∷ 9 ∷ []) && all (agrees b (used b a) a) (m .asked)
