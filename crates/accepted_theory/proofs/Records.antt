@@ -1,62 +1,39 @@
 -- Records: extending them, the nodes in them and their refusals are the same for two areas whose tables read the same; and a port's lines.
--- Rests on Every and Walk (the node that comes next on a line).
+-- Rests on Every.
 use Prim.Native.Nat.{ℕ, _<_}
 use native.Mathlib.Decide.{decLt}
 use native.Mathlib.Omega.{arith}
 use mathlib.Core.Path.{_≡_, refl, sym, ap, ap₂, _∙_}
-use mathlib.Core.Bool.{Bool, true, false, not, _&&_, _||_, cond}
+use mathlib.Core.Bool.{Bool, not, _&&_, _||_, cond}
 use mathlib.Core.List.{List, [], _∷_, map}
 use lib.ListN.{take, drop}
 use lib.Dec.{eqb, leb, ltb}
-use borrow.Author.Tests.{eqb-true, le-leb}
+use borrow.Author.Tests.{le-leb}
 use Rattle.lists.specs.Lists.{upto, any, keep, member, sortBy}
-use Rattle.lists.specs.Found.{Found, isAt, front, listed}
+use Rattle.lists.specs.Found.{Found}
 use Rattle.lists.proofs.First.{first-same}
 use Rattle.paper.specs.Map.{N, portNode}
 use Rattle.paper.specs.Area.{K, position, linesOf, nodesOf}
 use Rattle.paper.specs.Intervals.{Interval, Records, records, none, within}
-use Rattle.paper.specs.Walk.{nextOn}
-use Rattle.paper.specs.Records.{recordAt, nextPosition, grow, behind, extendLine, extendLines, extend, insideOn, inside, nodesIn}
+use Rattle.paper.specs.Records.{recordAt, along, grow, behind, extendLine, extendLines, extend, insideOn, inside, nodesIn}
 use Rattle.paper.specs.Ports.{lineCountAt, firstLine, linesAt}
 use Rattle.paper.specs.Refusals.{refusal, refuse, onLine, usedBefore, badRecord, wholeRecords, rule12, straddles, rule13}
 use Rattle.accepted_theory.specs.Every.{Every}
 use Rattle.accepted_theory.specs.SameTables.{KnownNode, KnownLine, SameTables}
 use Rattle.accepted_theory.proofs.Every.{every-keep, every-upto, map-every, keep-every, sortBy-every}
-use Rattle.accepted_theory.proofs.Walk.{nextOn-same, nextOn-known}
 
 module _ {b a c : List ℕ} (t : SameTables b a c) where
   -- ---- extend
 
-  pub nextPosition-same : (l p : ℕ) → l < K b a → nextPosition b a l p ≡ nextPosition b c l p
-  unfolding nextPosition
-  nextPosition-same l p h =
-      ap front
-      (map-every (KnownNode b) (position b a) (position b c) (t .positions) (listed (nextOn b a l p)) (nextOn-known t l p h)
-      ∙ ap (λ (f : Found). map (position b c) (listed f)) (nextOn-same t l p h))
+  pub along-same : (l : ℕ) → l < K b a → along b a l ≡ along b c l
+  along-same l h =
+      map-every (KnownNode b) (position b a) (position b c) (t .positions) (nodesOf b a l) (t .nodesKnown l h) ∙ ap (map (position b c)) (t .nodes l h)
 
-  pub grow-same : (p : ℕ) (r : Interval) (rest : List Interval) → r .line < K b a → grow b a p r rest ≡ grow b c p r rest
-  unfolding grow
-  grow-same p r rest h =
-      ap₂
-      (λ (below above : Found).
-      cond (ltb p (r .lowest))
-      (cond (isAt (r .lowest) below) (records (record { line = r .line; lowest = p; highest = r .highest } ∷ rest)) none)
-      (cond (ltb (r .highest) p)
-      (cond (isAt p above) (records (record { line = r .line; lowest = r .lowest; highest = p } ∷ rest)) none)
-      (records (r ∷ rest))))
-      (nextPosition-same (r .line) p h)
-      (nextPosition-same (r .line) (r .highest) h)
-
-  -- only a record on the line itself grows
   pub extendLine-same : (p l : ℕ) (rs : List Interval) → l < K b a → extendLine b a p l rs ≡ extendLine b c p l rs
   unfolding extendLine
   extendLine-same p l [] h = refl
-  extendLine-same p l (r ∷ rs) h = go (eqb (r .line) l) (eqb-true (r .line) l) (extendLine-same p l rs h)
-    where
-      go : (here : Bool) → (here ≡ true → r .line ≡ l) → extendLine b a p l rs ≡ extendLine b c p l rs
-          → cond here (grow b a p r rs) (behind r (extendLine b a p l rs)) ≡ cond here (grow b c p r rs) (behind r (extendLine b c p l rs))
-      go true is ih = grow-same p r rs (omega (arith, is refl))
-      go false is ih = ap (behind r) ih
+  extendLine-same p l (r ∷ rs) h =
+      ap₂ (λ (line : List ℕ) (e : Records). cond (eqb (r .line) l) (grow line p r rs) (behind r e)) (along-same l h) (extendLine-same p l rs h)
 
   pub extendLines-same : (p : ℕ) (ls : List ℕ) (e : Records) → Every (KnownLine b a) ls → extendLines b a p ls e ≡ extendLines b c p ls e
   unfolding extendLines
@@ -109,9 +86,7 @@ module _ {b a c : List ℕ} (t : SameTables b a c) where
 
   pub onLine-same : (l p : ℕ) → l < K b a → onLine b a l p ≡ onLine b c l p
   unfolding onLine
-  onLine-same l p h =
-      ap (member p)
-      (map-every (KnownNode b) (position b a) (position b c) (t .positions) (nodesOf b a l) (t .nodesKnown l h) ∙ ap (map (position b c)) (t .nodes l h))
+  onLine-same l p h = ap (member p) (along-same l h)
 
   -- a record on an unknown line is bad, whatever stands there
   pub badRecord-same : (words : List ℕ) (i : ℕ) → badRecord b a words i ≡ badRecord b c words i

@@ -8,16 +8,15 @@ use mathlib.Core.Path.{_≡_, refl, sym, _∙_}
 use mathlib.Core.Bool.{Bool, true, false, cond}
 use mathlib.Core.List.{List, [], _∷_}
 use lib.ListN.{length, length-map}
-use lib.Dec.{eqb, ltb}
+use lib.Dec.{eqb}
 use Rattle.lists.specs.Lists.{one, times}
-use Rattle.lists.specs.Found.{isAt}
 use Rattle.lists.proofs.Compare.{fits}
 use Rattle.lists.proofs.Count.{one-eq, one-ne}
 use Rattle.lists.proofs.Members.{below-members}
 use Rattle.paper.specs.Map.{N}
 use Rattle.paper.specs.Area.{K, position, linesOf}
-use Rattle.paper.specs.Intervals.{Interval, Records, records, none}
-use Rattle.paper.specs.Records.{nextPosition, grow, behind, extendLine, extendLines, extend, nodesIn}
+use Rattle.paper.specs.Intervals.{Interval, Records, records, none, within}
+use Rattle.paper.specs.Records.{along, nextBelow, nextAbove, grow, behind, extendLine, extendLines, extend, nodesIn}
 use Rattle.paper.specs.Calls.{needed}
 use Rattle.accepted_theory.specs.Every.{Every}
 use Rattle.accepted_theory.specs.SameTables.{KnownLine}
@@ -42,11 +41,9 @@ own-few k none own = omega arith
 
 module _ (b a : List ℕ) (p : ℕ) where
   -- a record that grows keeps its line
-  grow-having : (j : ℕ) (r : Interval) (rest : List Interval) → having j (grow b a p r rest) ≤ times j (lines (r ∷ rest))
+  grow-having : (j : ℕ) (line : List ℕ) (r : Interval) (rest : List Interval) → having j (grow line p r rest) ≤ times j (lines (r ∷ rest))
   unfolding grow
-  grow-having j r rest =
-      go (ltb p (r .lowest)) (isAt (r .lowest) (nextPosition b a (r .line) p)) (ltb (r .highest) p)
-      (isAt p (nextPosition b a (r .line) (r .highest)))
+  grow-having j line r rest = go (nextBelow line r p) (nextAbove line r p) (within r p)
     where
       low : Interval
       low = record { line = r .line; lowest = p; highest = r .highest }
@@ -54,14 +51,12 @@ module _ (b a : List ℕ) (p : ℕ) where
       high : Interval
       high = record { line = r .line; lowest = r .lowest; highest = p }
 
-      go : (s t u w : Bool)
-          → having j (cond s (cond t (records (low ∷ rest)) none) (cond u (cond w (records (high ∷ rest)) none) (records (r ∷ rest))))
-          ≤ times j (lines (r ∷ rest))
-      go true true u w = omega arith
-      go true false u w = omega arith
-      go false t true true = omega arith
-      go false t true false = omega arith
-      go false t false w = omega arith
+      go : (s t u : Bool)
+          → having j (cond s (records (low ∷ rest)) (cond t (records (high ∷ rest)) (cond u (records (r ∷ rest)) none))) ≤ times j (lines (r ∷ rest))
+      go true t u = omega arith
+      go false true u = omega arith
+      go false false true = omega arith
+      go false false false = omega arith
 
   behind-having : (j : ℕ) (r : Interval) (e : Records) → having j (behind r e) ≤ one (eqb j (r .line)) + having j e
   unfolding behind
@@ -83,8 +78,8 @@ module _ (b a : List ℕ) (p : ℕ) where
 
       go : (t : Bool) → eqb (r .line) l ≡ t
           → ((j ≡ l → 1 ≤ k - one (eqb j (r .line))) → having j (extendLine b a p l rs) ≤ k - one (eqb j (r .line)))
-          → having j (cond t (grow b a p r rs) (behind r (extendLine b a p l rs))) ≤ k
-      go true q ih = omega (arith, grow-having j r rs)
+          → having j (cond t (grow (along b a l) p r rs) (behind r (extendLine b a p l rs))) ≤ k
+      go true q ih = omega (arith, grow-having j (along b a l) r rs)
       go false q ih = omega (arith, behind-having j r (extendLine b a p l rs), ih (left q))
 
   line-own : (k l : ℕ) (rs : List Interval) → l < k → Own k (records rs) → Own k (extendLine b a p l rs)

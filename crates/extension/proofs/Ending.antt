@@ -92,7 +92,7 @@ module _ {b a : List ℕ} {n l p : ℕ} (usable : Usable b a n l p) where
           }
 
       line-ahead : (x : ℕ) → x < K b a → Ahead b a n l start count x
-      line-ahead x k = record { slot = go (slotted .each x k); high = ends }
+      line-ahead x k = record { slot = go (slotted .each x k); high = ends; upright = λ j h e. stands-upright j h }
         where
           go : Unmarked a words count (marksAt n l) x ⊎ Marked a words count (slotsAt n l) (marksAt n l) x
               → Unmarked a start count (marksAt n l) x ⊎ Marked a start count (slotsAt n l) (marksAt n l) x
@@ -103,6 +103,9 @@ module _ {b a : List ℕ} {n l p : ℕ} (usable : Usable b a n l p) where
           ends j h e =
               subst (λ (y : ℕ). onLine b a y (recordAt start j .highest) ≡ true) e
               (subst (λ (r : Interval). onLine b a (r .line) (r .highest) ≡ true) (sym (copied-record count copied j h)) (is-good b a words j (recorded .good j h) .high))
+
+          stands-upright : (j : ℕ) → j < count → recordAt start j .lowest ≤ recordAt start j .highest
+          stands-upright j h = subst (λ (r : Interval). r .lowest ≤ r .highest) (sym (copied-record count copied j h)) (is-good b a words j (recorded .good j h) .upright)
 
       module _ {v : ℕ} (known : v < n) {lines : List ℕ} {q : ℕ} (are : lines ≡ entriesOf a (nodeStartsAt n) (linesAt n) v) (is : q ≡ getD a (positionsAt n + v) 0) where
         lines-of : linesOf b a v ≡ lines

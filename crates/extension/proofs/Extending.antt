@@ -1,24 +1,27 @@
 -- Extending on one line: by a new record where the line has no mark, else by the record that its slot tells.
--- Rests on Lines, Putting and records' Few (no more records than lines).
-use Prim.Native.Nat.{ℕ, _+_, _*_, _≤_, _<_}
+-- Rests on Lines, on on_line's Along (a line handed on) and on records' Few (no more records than lines).
+use Prim.Native.Nat.{ℕ, _+_, _-_, _*_, _≤_, _<_}
 use native.Mathlib.Decide.{ℕ-discrete}
 use native.Mathlib.Numerals.{add-one}
 use native.Mathlib.Omega.{arith}
 use borrow.Author.Tests.{not-true, not-false}
-use mathlib.Core.Path.{_≡_, sym, ap, ap₂, _∙_, subst}
+use mathlib.Core.Path.{_≡_, sym, ap, ap₂, _∙_, subst, subst₂}
 use mathlib.Core.Logic.{_⊎_, inl, inr}
 use mathlib.Core.Bool.{Bool, true, false, not}
 use mathlib.Core.List.{List, [], _∷_, _++_, map}
-use lib.ListN.{length, getD}
+use lib.ListN.{length, getD, take, drop}
 use Rattle.lists.specs.Lists.{upto}
 use Rattle.lists.proofs.Upto.{table-suc, table-same}
 use Rattle.paper.specs.Area.{K}
 use Rattle.paper.specs.Intervals.{Interval, records, none}
-use Rattle.paper.specs.Records.{recordAt, recordsIn}
+use Rattle.paper.specs.Records.{recordAt, recordsIn, along}
 use Rattle.paper.specs.Refusals.{onLine}
 use Rattle.tables.specs.Usable.{Usable}
 use Rattle.tables.specs.Recorded.{Unmarked, Marked}
 use Rattle.tables.proofs.Words.{count-few}
+use Rattle.lookup.specs.Line.{Line, positionsOn}
+use Rattle.on_line.specs.Along.{nodesAlong, positionsAlong}
+use Rattle.on_line.proofs.Along.{handed, along-is, line-at}
 use Rattle.records.specs.Slots.{slotsAt, marksAt}
 use Rattle.records.proofs.Few.{no-more, room-left}
 use Rattle.extension.specs.Room.{recordOf, Put, Growing, Grew, OwnLines, LineReady, Changed, LineExtended}
@@ -95,49 +98,66 @@ module _ {b a : List ℕ} {n l p : ℕ} (usable : Usable b a n l p) {room : List
     slot-line : recordAt room slot .line ≡ x
     slot-line = ap (λ (s : ℕ). recordAt room s .line) which ∙ has .line
 
-    pub can-grow : Growing b a room slot q
-    can-grow =
-        record {
-          whole = omega (arith, slot-made, few-made usable (ready .own), ready .fits);
-          known = omega (arith, slot-line, ready .known);
-          high = subst (λ (y : ℕ). onLine b a y (recordAt room slot .highest) ≡ true) (sym slot-line) (ready .ahead .high slot slot-made slot-line);
-          here = subst (λ (y : ℕ). onLine b a y q ≡ true) (sym slot-line) (ready .here);
-          word = ready .word;
-        }
-
     earlier : (j : ℕ) → 0 ≤ j → j < slot → recordAt room j .line ≡ x → ⊥
     earlier j low h e = ready .own .lone j slot h slot-made (e ∙ sym slot-line)
 
-    module _ {grown : Bool} {after : List ℕ} (grew : Grew b a room slot q grown after) where
-      pub grown-record : not grown ≡ false → LineExtended b a room made q x (Made made) after
-      unfolding recordsIn
-      grown-record e =
-          record {
-            says = sym (extend-at b a q x (recordAt room) slot slot-line (recordAt after) (grew .others) (grew .grows (not-false grown e)) 0 made (omega arith) (omega (arith, slot-made)) earlier);
-            changed = λ count f. made-same count (cc);
-            long = grew .long;
-          }
-        where
-          lines-same : (j : ℕ) → Dec (j ≡ slot) → recordAt after j .line ≡ recordAt room j .line
-          lines-same j (yes o) = ap (λ (k : ℕ). recordAt after k .line) o ∙ grew .line ∙ ap (λ (k : ℕ). recordAt room k .line) (sym o)
-          lines-same j (no ne) = ap (λ (r : Interval). r .line) (grew .others j ne)
+    -- the line's nodes and the positions, as they are handed on
+    module _ {nodes : List ℕ} (are : nodes ≡ nodesAlong a n l x) where
+      abbrev positions : List ℕ
+      positions = take (1 + n + n - (1 + n)) (drop (1 + n) a)
 
-          made-same : (count : ℕ) → made ≡ count → Changed room made x after count
-          made-same count f =
-              record {
-                least = omega arith;
-                most = omega arith;
-                lines = λ j h. lines-same j (ℕ-discrete j slot);
-                others = λ j h ne. grew .others j (λ o. ne (ap (λ (k : ℕ). recordAt room k .line) o ∙ slot-line));
-                new = λ h. absurd (omega arith);
-                free = λ h. absurd (omega arith);
-              }
+      line-is : positionsOn nodes positions ≡ along b a x
+      unfolding positionsAlong
+      line-is = ap₂ positionsOn are (handed a n) ∙ along-is usable x (ready .known)
 
-      pub stopped-record : not grown ≡ true → LineExtended b a room made q x NotExtendable after
-      unfolding recordsIn
-      stopped-record e =
+      growing : Growing (along b a x) room slot q
+      unfolding onLine
+      growing =
           record {
-            says = sym (extend-not b a q x (recordAt room) slot slot-line (grew .stops (not-true grown e)) 0 made (omega arith) (omega (arith, slot-made)) earlier);
-            changed = λ count f. absurd (let z : _≡_ {A = ℕ} 0 1 = cc in omega arith);
-            long = grew .long;
+            whole = omega (arith, slot-made, few-made usable (ready .own), ready .fits);
+            upright = ready .ahead .upright slot slot-made slot-line;
+            high = ready .ahead .high slot slot-made slot-line;
+            here = ready .here;
+            word = ready .word;
           }
+
+      pub can-grow : Line nodes positions × Growing (positionsOn nodes positions) room slot q
+      can-grow =
+          (subst₂ Line (sym are) (sym (handed a n)) (line-at usable x (ready .known) .line), subst (λ (line : List ℕ). Growing line room slot q) (sym line-is) growing)
+
+      module _ {grown : Bool} {after : List ℕ} (grew : Grew (positionsOn nodes positions) room slot q grown after) where
+        grew-along : Grew (along b a x) room slot q grown after
+        grew-along = subst (λ (line : List ℕ). Grew line room slot q grown after) line-is grew
+
+        pub grown-record : not grown ≡ false → LineExtended b a room made q x (Made made) after
+        unfolding recordsIn
+        grown-record e =
+            record {
+              says = sym (extend-at b a q x (recordAt room) slot slot-line (recordAt after) (grew .others) (grew-along .grows (not-false grown e)) 0 made (omega arith) (omega (arith, slot-made)) earlier);
+              changed = λ count f. made-same count (cc);
+              long = grew .long;
+            }
+          where
+            lines-same : (j : ℕ) → Dec (j ≡ slot) → recordAt after j .line ≡ recordAt room j .line
+            lines-same j (yes o) = ap (λ (k : ℕ). recordAt after k .line) o ∙ grew .kept ∙ ap (λ (k : ℕ). recordAt room k .line) (sym o)
+            lines-same j (no ne) = ap (λ (r : Interval). r .line) (grew .others j ne)
+
+            made-same : (count : ℕ) → made ≡ count → Changed room made x after count
+            made-same count f =
+                record {
+                  least = omega arith;
+                  most = omega arith;
+                  lines = λ j h. lines-same j (ℕ-discrete j slot);
+                  others = λ j h ne. grew .others j (λ o. ne (ap (λ (k : ℕ). recordAt room k .line) o ∙ slot-line));
+                  new = λ h. absurd (omega arith);
+                  free = λ h. absurd (omega arith);
+                }
+
+        pub stopped-record : not grown ≡ true → LineExtended b a room made q x NotExtendable after
+        unfolding recordsIn
+        stopped-record e =
+            record {
+              says = sym (extend-not b a q x (recordAt room) slot slot-line (grew-along .stops (not-true grown e)) 0 made (omega arith) (omega (arith, slot-made)) earlier);
+              changed = λ count f. absurd (let z : _≡_ {A = ℕ} 0 1 = cc in omega arith);
+              long = grew .long;
+            }

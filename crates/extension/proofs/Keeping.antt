@@ -1,6 +1,6 @@
 -- What one line changes leaves the other lines as they were: the records keep lines of their own, and marks and slots still tell them.
 -- Rests on Room's definitions.
-use Prim.Native.Nat.{ℕ, _+_, _<_}
+use Prim.Native.Nat.{ℕ, _+_, _≤_, _<_}
 use native.Mathlib.Decide.{decLt}
 use native.Mathlib.Omega.{arith}
 use mathlib.Core.Path.{_≡_, sym, ap, _∙_, subst}
@@ -38,7 +38,7 @@ module _ {room : List ℕ} {made x : ℕ} {after : List ℕ} {count : ℕ} (chan
           changed .free (omega (arith, g)) i early (sym (changed .lines i early) ∙ e ∙ new-line j h g)
 
   pub ahead-still : {b a : List ℕ} {n l y : ℕ} → (y ≡ x → ⊥) → Ahead b a n l room made y → Ahead b a n l after count y
-  ahead-still {b} {a} {n} {l} {y} ne ahead = record { slot = go (ahead .slot); high = λ j h e. ends j h e (decLt j made) }
+  ahead-still {b} {a} {n} {l} {y} ne ahead = record { slot = go (ahead .slot); high = λ j h e. ends j h e (decLt j made) .0; upright = λ j h e. ends j h e (decLt j made) .1 }
     where
       none-there : Unmarked a room made (marksAt n l) y → (j : ℕ) → j < count → Dec (j < made) → recordAt after j .line ≡ y → ⊥
       none-there free j h (yes g) e = free .none j g (sym (changed .lines j g) ∙ e)
@@ -56,8 +56,10 @@ module _ {room : List ℕ} {made x : ℕ} {after : List ℕ} {count : ℕ} (chan
           }
           )
 
-      ends : (j : ℕ) → j < count → recordAt after j .line ≡ y → Dec (j < made) → onLine b a y (recordAt after j .highest) ≡ true
+      ends : (j : ℕ) → j < count → recordAt after j .line ≡ y → Dec (j < made)
+          → (onLine b a y (recordAt after j .highest) ≡ true) × (recordAt after j .lowest ≤ recordAt after j .highest)
       ends j h e (yes g) =
           let there : recordAt room j .line ≡ y = sym (changed .lines j g) ∙ e in
-          subst (λ (r : Interval). onLine b a y (r .highest) ≡ true) (sym (changed .others j g (λ o. ne (sym there ∙ o)))) (ahead .high j g there)
+          subst (λ (r : Interval). (onLine b a y (r .highest) ≡ true) × (r .lowest ≤ r .highest)) (sym (changed .others j g (λ o. ne (sym there ∙ o))))
+          (ahead .high j g there, ahead .upright j g there)
       ends j h e (no g) = absurd (ne (sym e ∙ new-line j h g))

@@ -9,7 +9,7 @@ use mathlib.Core.Bool.{Bool, cond}
 use mathlib.Core.List.{List, [], _∷_, _++_, map}
 use Rattle.lists.specs.Lists.{from}
 use Rattle.paper.specs.Intervals.{Interval, records, none}
-use Rattle.paper.specs.Records.{grow, behind, extendLine, extendLines}
+use Rattle.paper.specs.Records.{along, grow, behind, extendLine, extendLines}
 use Rattle.extension.specs.Room.{recordOf}
 
 map-after : (f g : ℕ → Interval) (n k : ℕ) → ((j : ℕ) → n ≤ j → f j ≡ g j) → map f (from n k) ≡ map g (from n k)
@@ -21,11 +21,11 @@ module _ (b a : List ℕ) (p x : ℕ) where
   -- a record on another line is passed by
   passed-by : (r : Interval) (rs : List Interval) → (r .line ≡ x → ⊥) → extendLine b a p x (r ∷ rs) ≡ behind r (extendLine b a p x rs)
   unfolding extendLine
-  passed-by r rs ne = ap (λ (t : Bool). cond t (grow b a p r rs) (behind r (extendLine b a p x rs))) (ne-eqb (r .line) x ne)
+  passed-by r rs ne = ap (λ (t : Bool). cond t (grow (along b a x) p r rs) (behind r (extendLine b a p x rs))) (ne-eqb (r .line) x ne)
 
-  met : (r : Interval) (rs : List Interval) → r .line ≡ x → extendLine b a p x (r ∷ rs) ≡ grow b a p r rs
+  met : (r : Interval) (rs : List Interval) → r .line ≡ x → extendLine b a p x (r ∷ rs) ≡ grow (along b a x) p r rs
   unfolding extendLine
-  met r rs e = ap (λ (t : Bool). cond t (grow b a p r rs) (behind r (extendLine b a p x rs))) (eq-eqb (r .line) x e)
+  met r rs e = ap (λ (t : Bool). cond t (grow (along b a x) p r rs) (behind r (extendLine b a p x rs))) (eq-eqb (r .line) x e)
 
   -- "new records last"
   pub extend-new : (f : ℕ → Interval) (n k : ℕ) → ((j : ℕ) → n ≤ j → j < n + k → f j .line ≡ x → ⊥)
@@ -38,7 +38,7 @@ module _ (b a : List ℕ) (p x : ℕ) where
 
   module _ (f : ℕ → Interval) (s : ℕ) (line : f s .line ≡ x) where
     -- record s is the first on the line, and grows
-    pub extend-at : (g : ℕ → Interval) → ((j : ℕ) → (j ≡ s → ⊥) → g j ≡ f j) → ((rest : List Interval) → grow b a p (f s) rest ≡ records (g s ∷ rest))
+    pub extend-at : (g : ℕ → Interval) → ((j : ℕ) → (j ≡ s → ⊥) → g j ≡ f j) → ((rest : List Interval) → grow (along b a x) p (f s) rest ≡ records (g s ∷ rest))
         → (n k : ℕ) → n ≤ s → s < n + k → ((j : ℕ) → n ≤ j → j < s → f j .line ≡ x → ⊥) → extendLine b a p x (map f (from n k)) ≡ records (map g (from n k))
     unfolding behind
     extend-at g agree grows n zero low high other = absurd (omega arith)
@@ -49,7 +49,7 @@ module _ (b a : List ℕ) (p x : ℕ) where
             → extendLine b a p x (f n ∷ map f (from (suc n) k)) ≡ records (g n ∷ map g (from (suc n) k))
         go (yes e) rest =
             met (f n) (map f (from (suc n) k)) (ap (λ (j : ℕ). f j .line) e ∙ line)
-            ∙ ap (λ (j : ℕ). grow b a p (f j) (map f (from (suc n) k))) e ∙ grows (map f (from (suc n) k))
+            ∙ ap (λ (j : ℕ). grow (along b a x) p (f j) (map f (from (suc n) k))) e ∙ grows (map f (from (suc n) k))
             ∙ ap₂ (λ (j : ℕ) (rs : List Interval). records (g j ∷ rs)) (sym e)
             (map-after f g (suc n) k (λ j h. sym (agree j (λ o. omega (arith, e)))))
         go (no ne) rest =
@@ -57,7 +57,7 @@ module _ (b a : List ℕ) (p x : ℕ) where
             ∙ ap (behind (f n)) (rest (omega (arith, ne))) ∙ ap (λ (r : Interval). records (r ∷ map g (from (suc n) k))) (sym (agree n ne))
 
     -- .. or cannot
-    pub extend-not : ((rest : List Interval) → grow b a p (f s) rest ≡ none)
+    pub extend-not : ((rest : List Interval) → grow (along b a x) p (f s) rest ≡ none)
         → (n k : ℕ) → n ≤ s → s < n + k → ((j : ℕ) → n ≤ j → j < s → f j .line ≡ x → ⊥) → extendLine b a p x (map f (from n k)) ≡ none
     unfolding behind
     extend-not stops n zero low high other = absurd (omega arith)
@@ -67,7 +67,7 @@ module _ (b a : List ℕ) (p x : ℕ) where
         go : Dec (n ≡ s) → (suc n ≤ s → extendLine b a p x (map f (from (suc n) k)) ≡ none) → extendLine b a p x (f n ∷ map f (from (suc n) k)) ≡ none
         go (yes e) rest =
             met (f n) (map f (from (suc n) k)) (ap (λ (j : ℕ). f j .line) e ∙ line)
-            ∙ ap (λ (j : ℕ). grow b a p (f j) (map f (from (suc n) k))) e ∙ stops (map f (from (suc n) k))
+            ∙ ap (λ (j : ℕ). grow (along b a x) p (f j) (map f (from (suc n) k))) e ∙ stops (map f (from (suc n) k))
         go (no ne) rest = passed-by (f n) (map f (from (suc n) k)) (other n (omega arith) (omega (arith, ne))) ∙ ap (behind (f n)) (rest (omega (arith, ne)))
 
 -- nothing comes of lines behind one that stops

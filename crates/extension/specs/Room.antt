@@ -6,6 +6,7 @@ use mathlib.Core.Logic.{_⊎_}
 use mathlib.Core.Bool.{Bool, true, false}
 use mathlib.Core.List.{List, _∷_}
 use lib.ListN.{length, getD}
+use Rattle.lists.specs.Lists.{member}
 use Rattle.paper.specs.Area.{K}
 use Rattle.paper.specs.Intervals.{Interval, records, none}
 use Rattle.paper.specs.Records.{recordAt, recordsIn, grow, extendLine, extendLines}
@@ -27,19 +28,19 @@ pub record Put (room : List ℕ) (i : ℕ) (r : Interval) (after : List ℕ) : T
   pub others : (j : ℕ) → (j ≡ i → ⊥) → recordAt after j ≡ recordAt room j
   pub long : length after ≡ length room
 
--- record i can grow on its line: it stands in the room, and its highest and the position stand on the line
-pub record Growing (b a room : List ℕ) (i p : ℕ) : Type 0 where
+-- record i can grow by a position, on a line with these positions: it stands in the room, and its highest and the position stand on the line
+pub record Growing (line room : List ℕ) (i p : ℕ) : Type 0 where
   pub whole : 3 * i + 2 < length room
-  pub known : recordAt room i .line < K b a
-  pub high : onLine b a (recordAt room i .line) (recordAt room i .highest) ≡ true
-  pub here : onLine b a (recordAt room i .line) p ≡ true
+  pub upright : recordAt room i .lowest ≤ recordAt room i .highest
+  pub high : member (recordAt room i .highest) line ≡ true
+  pub here : member p line ≡ true
   pub word : p < 65536
 
 -- record i grew as 01 says, or could not
-pub record Grew (b a room : List ℕ) (i p : ℕ) (grown : Bool) (after : List ℕ) : Type 0 where
-  pub grows : grown ≡ true → (rest : List Interval) → grow b a p (recordAt room i) rest ≡ records (recordAt after i ∷ rest)
-  pub stops : grown ≡ false → (rest : List Interval) → grow b a p (recordAt room i) rest ≡ none
-  pub line : recordAt after i .line ≡ recordAt room i .line
+pub record Grew (line room : List ℕ) (i p : ℕ) (grown : Bool) (after : List ℕ) : Type 0 where
+  pub grows : grown ≡ true → (rest : List Interval) → grow line p (recordAt room i) rest ≡ records (recordAt after i ∷ rest)
+  pub stops : grown ≡ false → (rest : List Interval) → grow line p (recordAt room i) rest ≡ none
+  pub kept : recordAt after i .line ≡ recordAt room i .line
   pub others : (j : ℕ) → (j ≡ i → ⊥) → recordAt after j ≡ recordAt room j
   pub long : length after ≡ length room
 
@@ -50,10 +51,11 @@ pub record OwnLines (b a room : List ℕ) (made : ℕ) : Type 0 where
   pub known : (j : ℕ) → j < made → recordAt room j .line < K b a
   pub lone : (i j : ℕ) → i < j → j < made → recordAt room i .line ≡ recordAt room j .line → ⊥
 
--- line x is still as its mark and its slot tell, and a record on it ends on it
+-- line x is still as its mark and its slot tell, and a record on it ends on it, its lowest no higher than its highest
 pub record Ahead (b a : List ℕ) (n l : ℕ) (room : List ℕ) (made x : ℕ) : Type 0 where
   pub slot : Unmarked a room made (marksAt n l) x ⊎ Marked a room made (slotsAt n l) (marksAt n l) x
   pub high : (j : ℕ) → j < made → recordAt room j .line ≡ x → onLine b a x (recordAt room j .highest) ≡ true
+  pub upright : (j : ℕ) → j < made → recordAt room j .line ≡ x → recordAt room j .lowest ≤ recordAt room j .highest
 
 -- what extending on line x asks
 pub record LineReady (b a : List ℕ) (n l : ℕ) (room : List ℕ) (made p x : ℕ) : Type 0 where

@@ -34,7 +34,7 @@ fn copy_words(words: &[u16], taken: usize, room: &mut [u16])
     }
 }
 
-// Extends the `made` records in the room on line x: its own grows, or a new one comes last.
+// Extends the `made` records in the room on line x: its own grows, given the part of the area with the line's nodes, or a new one comes last.
 fn extend_line(
     b: &[u8],
     n: usize,
@@ -55,7 +55,10 @@ fn extend_line(
         return Extended::Records(made + 1);
     }
     let slot = word_at(area, 3 + 6 * n + 5 * l, x);
-    if !grow_record(b, n, l, p, area, room, slot, pos) {
+    let nodes = entries(area, 2 + 4 * n + 2 * l, 3 + 5 * n + 3 * l, x);
+    let first = 1 + n;
+    let end = 1 + n + n;
+    if !grow_record(nodes, &area[first..end], room, slot, pos) {
         return Extended::NotExtendable;
     }
     Extended::Records(made)

@@ -124,12 +124,12 @@ module _ {b c : List ℕ} {n l p : ℕ} (usable : Usable b c n l p) (list : List
           (positions-still (here .interval .line) (line-known i inside)) count-is
 
     pub can-test-all : length list ≤ 512 → 3 * (n + l) ≤ length ws → TestedAll m n l ws made
-    can-test-all few roomy =
+    can-test-all few roomy i h =
         record {
           room = omega (arith, usable .room, scratched .long);
-          roomy = omega (arith, holds .many, sized-room (holds .sized));
-          known = λ i h. omega (arith, ap (λ (r : Interval). r .line) (holds .records i (inside i h)), line-few i h);
-          tested = λ i h. subst (λ (r : Interval). Tested m n l (r .line) (r .lowest) (countAt m n l (r .line))) (sym (holds .records i (inside i h))) (here-tested i h few);
+          whole = omega (arith, holds .many, sized-room (holds .sized));
+          known = omega (arith, ap (λ (r : Interval). r .line) (holds .records i (inside i h)), line-few i h);
+          tested = subst (λ (r : Interval). Tested m n l (r .line) (r .lowest) (countAt m n l (r .line))) (sym (holds .records i (inside i h))) (here-tested i h few);
         }
 
     pub all-fill : all (fillsRecord m n l ws) (upto made) ≡ all (fills b c) (addNodes b c list [])

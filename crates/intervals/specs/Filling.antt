@@ -35,9 +35,13 @@ pub record Tested (a : List ℕ) (n l x low count : ℕ) : Type 0 where
   pub some : 1 ≤ count
   pub small : count < 65536
 
--- .. and so for each of the `made` records
-pub record TestedAll (a : List ℕ) (n l : ℕ) (words : List ℕ) (made : ℕ) : Type 0 where
+-- .. and so for record i
+pub record TestedRecord (a : List ℕ) (n l : ℕ) (words : List ℕ) (i : ℕ) : Type 0 where
   pub room : slotsAt n l + (n + l) + (n + l) ≤ length a
-  pub roomy : 3 * made ≤ length words
-  pub known : (i : ℕ) → i < made → recordAt words i .line < n + l
-  pub tested : (i : ℕ) → i < made → Tested a n l (recordAt words i .line) (recordAt words i .lowest) (countAt a n l (recordAt words i .line))
+  pub whole : 3 * i + 2 < length words
+  pub known : recordAt words i .line < n + l
+  pub tested : Tested a n l (recordAt words i .line) (recordAt words i .lowest) (countAt a n l (recordAt words i .line))
+
+-- .. and for each of the `made` records
+abbrev pub TestedAll : List ℕ → ℕ → ℕ → List ℕ → ℕ → Type 0
+TestedAll a n l words made = (i : ℕ) → i < made → TestedRecord a n l words i

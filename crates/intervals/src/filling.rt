@@ -1,38 +1,48 @@
 // Translated from src/algorithms/convex/line_convex_checker.rs of portgraph (88172a3c8e, Apache-2.0, see NOTICE), and changed: the test
-// in the last loop of `get_intervals_from_nodes` is a function of its own.
+// in the last loop of `get_intervals_from_nodes` is a function of its own, which is given the line's nodes as a part of the area.
 ghost use mathlib.Core.Path.{_≡_};
-ghost use Rattle.lists.specs.Lists.{all, upto};
-ghost use Rattle.on_line.specs.Along.{positionsAlong};
-ghost use Rattle.intervals.specs.Filling.{Tested, TestedAll, fillsAlong, fillsRecord};
+ghost use mathlib.Core.Bool.{true};
+ghost use Prim.Native.Nat.{_≤_, _<_};
+ghost use Rattle.lists.specs.Lists.{all, member, upto};
+ghost use Rattle.lookup.specs.Line.{Line, positionsOn};
+ghost use Rattle.intervals.specs.Filling.{TestedAll, TestedRecord, fillsAlong, fillsRecord};
 use lookup::Index;
-use on_line::index_on;
+use lookup::find_index;
+use lookup::position_at;
 use tables::entries;
 use words::field::wide;
 use words::section::word_at;
 
-// Whether `count` nodes of line x fill the interval from `low` to `high`: the node count - 1 places after the lowest is the highest.
-fn fills_line(
-    area: &[u16],
-    n: usize,
-    l: usize,
-    x: usize,
-    low: usize,
-    high: usize,
-    count: usize,
-) -> bool
-    requires { ⌜ Tested (now area) n l x low count ⌝ }
-    ensures { λ r. ⌜ r ≡ fillsAlong (positionsAlong (now (area .entry)) n l x) low high count ⌝ }
+// Whether `count` of a line's nodes fill the interval from `low` to `high`: the node count - 1 places after the lowest is the highest.
+fn fills_line(nodes: &[u16], positions: &[u16], low: usize, high: usize, count: usize) -> bool
+    requires { ⌜ Line (now nodes) (now positions) ⌝ }
+    requires { ⌜ member low (positionsOn (now nodes) (now positions)) ≡ true ⌝ }
+    requires { ⌜ (1 ≤ count) × (count < 65536) ⌝ }
+    ensures { λ r. ⌜ r ≡ fillsAlong (positionsOn (now (nodes .entry)) (now (positions .entry))) low high count ⌝ }
 {
-    let found = index_on(area, n, l, x, low);
-    let Index::At(first) = found else {
+    let Index::At(first) = find_index(nodes, positions, low) else {
         return false;
     };
     let last = first + count - 1;
-    let nodes = entries(area, 2 + 4 * n + 2 * l, 3 + 5 * n + 3 * l, x);
     if last >= nodes.len() {
         return false;
     }
-    word_at(area, 1 + n, wide(nodes[last])) == high
+    position_at(nodes, positions, last) == high
+}
+
+// Whether record i is filled: its line's nodes, the part of the area between two line starts, are given to the test.
+fn fills_record(area: &[u16], n: usize, l: usize, records: &[u16], i: usize) -> bool
+    requires { ⌜ TestedRecord (now area) n l (now records) i ⌝ }
+    ensures { λ r. ⌜ r ≡ fillsRecord (now (area .entry)) n l (now (records .entry)) i ⌝ }
+{
+    let x = wide(records[3 * i]);
+    let low = word_at(records, 3 * i, 1);
+    let high = word_at(records, 3 * i, 2);
+    let count = word_at(area, 3 + 7 * n + 5 * l + (n + l), x);
+    let nodes = entries(area, 2 + 4 * n + 2 * l, 3 + 5 * n + 3 * l, x);
+    let first = 1 + n;
+    let end = 1 + n + n;
+    fills_line(nodes, &area[first..end], low, high, count)
 }
 
 // Whether each of the `made` records is filled.
@@ -42,11 +52,7 @@ pub fn all_filled(area: &[u16], n: usize, l: usize, records: &[u16], made: usize
 {
     let mut i = 0;
     while i < made {
-        let x = wide(records[3 * i]);
-        let low = word_at(records, 3 * i, 1);
-        let high = word_at(records, 3 * i, 2);
-        let count = word_at(area, 3 + 7 * n + 5 * l + (n + l), x);
-        if !fills_line(area, n, l, x, low, high, count) {
+        if !fills_record(area, n, l, records, i) {
             return false;
         }
         i += 1;

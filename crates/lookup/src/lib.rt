@@ -28,7 +28,7 @@ pub enum Next {
 }
 
 // The position of a line's node at an index.
-fn position_at(nodes: &[u16], positions: &[u16], i: usize) -> usize
+pub fn position_at(nodes: &[u16], positions: &[u16], i: usize) -> usize
     requires { ⌜ Line (now nodes) (now positions) ⌝ }
     requires { ⌜ i < length (now nodes) ⌝ }
     ensures { λ r. ⌜ r ≡ getD (positionsOn (now (nodes .entry)) (now (positions .entry))) i 0 ⌝ }

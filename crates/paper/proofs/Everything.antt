@@ -10,7 +10,7 @@ use Rattle.paper.specs.Accepted.{linksBetween, rightAfter, linesBetween,
 use Rattle.paper.specs.Intervals.{touched, listedPositions, interval, within, contiguous, intervals}
 use Rattle.paper.specs.Walk.{M, nextOn, startNodes, standsBelow, visit, step, walkAfter, answerOf, walk, walkOn, lineCheck}
 use Rattle.paper.specs.OrderCheck.{placesOf, inRange, neighbourPlaces, insert, insertAll, passNode, passOther, stepTopo, topoAfter, replyOf, orderCheck}
-use Rattle.paper.specs.Records.{recordAt, recordsIn, wordsOfRecords, nextPosition, grow, behind, extendLine, extendLines, extend, insideOn, inside, nodesIn}
+use Rattle.paper.specs.Records.{recordAt, recordsIn, wordsOfRecords, nextPosition, nextBelow, nextAbove, grow, behind, extendLine, extendLines, extend, insideOn, inside, nodesIn}
 use Rattle.paper.specs.Ports.{earlierPorts, firstLine, lineCountAt, linesAt, otherEnd, firstOtherEnd, conflict}
 use Rattle.paper.specs.Refusals.{refuse, earliest, rule1, rule2, rule3, badLink, refuseLink, rule45, rule6, rule7, rule8, rule9, rule10, rule14, onLine, usedBefore, badRecord, wholeRecords, rule12, straddles, rule13, rule11, decide, answer, onRefusal}
 use Rattle.paper.specs.Calls.{untouched, unprepared, prepare, areaAfter, opening, call, callInto, lineRules, isNodeConvex, orderRules, topoIsNodeConvex, portRules, isConvex, topoIsConvex, said, wordsOf, needed, getIntervalsFromNodes, isConvexByIntervals, tryExtendIntervals, nodesInIntervals, linesAtPort, viewOfPort}
@@ -56,7 +56,7 @@ unfolding placesOf inRange neighbourPlaces insert insertAll passNode passOther s
 of-OrderCheck = tt
 
 of-Records : Unit {0}
-unfolding recordAt recordsIn wordsOfRecords nextPosition grow behind extendLine extendLines extend insideOn inside nodesIn
+unfolding recordAt recordsIn wordsOfRecords nextPosition nextBelow nextAbove grow behind extendLine extendLines extend insideOn inside nodesIn
 of-Records = tt
 
 of-Ports : Unit {0}

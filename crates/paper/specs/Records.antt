@@ -1,16 +1,15 @@
 -- 01, "The questions": records in a buffer of words, extend, and nodes in records.
--- Rests on Area, Intervals and Walk (the node that comes next on a line).
+-- Rests on Area and Intervals.
 use Prim.Native.Nat.{ℕ, _+_, _*_}
 use mathlib.Core.Bool.{Bool, _&&_, cond}
 use mathlib.Core.List.{List, [], _∷_, map, flatMap}
 use lib.ListN.{getD}
 use lib.Dec.{eqb, ltb}
 use Rattle.lists.specs.Lists.{upto, any, keep, sortBy}
-use Rattle.lists.specs.Found.{Found, isAt, front, listed}
+use Rattle.lists.specs.Found.{Found, isAt, front}
 use Rattle.paper.specs.Map.{N}
-use Rattle.paper.specs.Area.{position, linesOf}
+use Rattle.paper.specs.Area.{position, linesOf, nodesOf}
 use Rattle.paper.specs.Intervals.{Interval, Records, records, none, within}
-use Rattle.paper.specs.Walk.{nextOn}
 
 -- ---- records as words: line, lowest, highest
 
@@ -25,27 +24,37 @@ wordsOfRecords rs = flatMap (λ r. r .line ∷ r .lowest ∷ r .highest ∷ []) 
 
 -- ---- "Extend: one node, on all its lines, each next to the interval or inside it or new"
 
--- the next position after one on a line
-unfoldable pub nextPosition : List ℕ → List ℕ → ℕ → ℕ → Found
-nextPosition b a l p = front (map (position b a) (listed (nextOn b a l p)))
+-- the positions along a line
+abbrev pub along : List ℕ → List ℕ → ℕ → List ℕ
+along b a l = map (position b a) (nodesOf b a l)
 
--- a record with a position on its line: next below the lowest, next above the highest, or inside
-unfoldable pub grow : List ℕ → List ℕ → ℕ → Interval → List Interval → Records
-grow b a p r rest =
-    cond (ltb p (r .lowest))
-    (cond (isAt (r .lowest) (nextPosition b a (r .line) p)) (records (record { line = r .line; lowest = p; highest = r .highest } ∷ rest)) none)
-    (cond (ltb (r .highest) p)
-    (cond (isAt p (nextPosition b a (r .line) (r .highest))) (records (record { line = r .line; lowest = r .lowest; highest = p } ∷ rest)) none)
-    (records (r ∷ rest)))
+-- the position that comes after one along a line
+unfoldable pub nextPosition : List ℕ → ℕ → Found
+nextPosition line p = front (keep (ltb p) line)
+
+-- "next to the interval": the lowest comes after the position ..
+unfoldable pub nextBelow : List ℕ → Interval → ℕ → Bool
+nextBelow line r p = isAt (r .lowest) (nextPosition line p)
+
+-- .. or the position comes after the highest
+unfoldable pub nextAbove : List ℕ → Interval → ℕ → Bool
+nextAbove line r p = isAt p (nextPosition line (r .highest))
+
+-- a record with a position on its line: "next to the interval or inside it", else "not extendable"
+unfoldable pub grow : List ℕ → ℕ → Interval → List Interval → Records
+grow line p r rest =
+    cond (nextBelow line r p) (records (record { line = r .line; lowest = p; highest = r .highest } ∷ rest))
+    (cond (nextAbove line r p) (records (record { line = r .line; lowest = r .lowest; highest = p } ∷ rest))
+    (cond (within r p) (records (r ∷ rest)) none))
 
 unfoldable pub behind : Interval → Records → Records
 behind r (records rs) = records (r ∷ rs)
 behind r none = none
 
--- "new records last"
+-- ".. or new", "new records last"
 unfoldable pub extendLine : List ℕ → List ℕ → ℕ → ℕ → List Interval → Records
 extendLine b a p l [] = records (record { line = l; lowest = p; highest = p } ∷ [])
-extendLine b a p l (r ∷ rs) = cond (eqb (r .line) l) (grow b a p r rs) (behind r (extendLine b a p l rs))
+extendLine b a p l (r ∷ rs) = cond (eqb (r .line) l) (grow (along b a l) p r rs) (behind r (extendLine b a p l rs))
 
 -- ".. in the node's line order; else "not extendable""
 unfoldable pub extendLines : List ℕ → List ℕ → ℕ → List ℕ → Records → Records

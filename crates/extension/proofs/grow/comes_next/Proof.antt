@@ -1,49 +1,40 @@
 -- `extension::grow::comes_next` meets its contract: the line ends, or its next node's position is compared.
 -- Rests on Next.
+use Prim.Native.Nat.{_<_}
 use native.Mathlib.Omega.{arith}
+use lib.ListN.{length}
 use borrow.Author.Needs.{needs}
-use Rattle.on_line.proofs.Along.{line-at}
-use Rattle.extension.proofs.Next.{stands-along, line-end, node-there, node-next}
+use Rattle.extension.proofs.Next.{line-end, node-there, node-next}
 use Rattle.extension.proofs.grow.comes_next.Statement.{statement}
 use Rattle.extension.proofs.grow.comes_next.Tie as tie
 
-next-on-requires : tie.Need-next-on-requires
-next-on-requires c κs =
-    let start = c .before .before in
-    (line-at (start .pre .0) (start .args .x) (start .pre .1 .0), stands-along (start .pre .0) (start .pre .1 .0) (start .args .pos) (start .pre .1 .1))
+abbrev start : tie.After-node → tie.Start
+start s = s .before .before .before .before .before
 
-enum-known-node : tie.Need-enum-known-node
-enum-known-node c = search needs
-
-enum-told : tie.Need-enum-told
-enum-told c = search needs
+-- the next node has a position
+known : (s : tie.After-node) → s .node .given .0 .0 < length (start s .args .positions .now)
+known s =
+    node-there (start s .args .nodes .now) (start s .args .positions .now) (start s .args .pos) (s .before .before .next-after .ensures) (s .node .given .1) (start s .pre .0)
 
 returns : tie.Need-returns
 returns c =
-    let start = c .before .before .before .before .before in
-    line-end (start .pre .0) (start .pre .1 .0) (start .args .pos) (c .before .before .next-on .ensures) (c .enum-told .given .1) (start .args .next)
+    let found = c .before .before in
+    let start = found .before .before .before in
+    line-end (start .args .nodes .now) (start .args .positions .now) (start .args .pos) (found .next-after .ensures) (c .enum-told .given .1) (start .args .next)
 
-add-word-at : tie.Need-add-word-at
-add-word-at c = search needs
+mul-wide : tie.Need-mul-wide
+mul-wide c = omega (arith, known (c .before))
 
-word-at-requires : tie.Need-word-at-requires
-word-at-requires c κs =
-    let start = c .before .before .before .before .before .before in
-    omega (arith, node-there (start .pre .0) (start .pre .1 .0) (start .args .pos) (c .before .before .before .next-on .ensures) (c .before .node .given .1), start .pre .0 .room)
+shared-slice-read-wide : tie.Need-shared-slice-read-wide
+shared-slice-read-wide c = known (c .before .before)
 
 returns-2 : tie.Need-returns-2
 returns-2 c =
-    let start = c .before .before .before .before .before .before .before in
-    node-next (start .pre .0) (start .pre .1 .0) (start .args .pos) (c .before .before .before .before .next-on .ensures) (c .before .before .node .given .1) (c .word-at .ensures) (start .args .next)
+    let node = c .before .before .before in
+    let args = start node .args in
+    node-next (args .nodes .now) (args .positions .now) (args .pos) (node .before .before .next-after .ensures) (node .node .given .1) (c .wide .ensures) (args .next)
 
 pub comes-next-spec : {M : Type 1} → statement M
 comes-next-spec =
     tie.close
-    (tie.spec
-    next-on-requires
-    enum-known-node
-    enum-told
-    returns
-    add-word-at
-    word-at-requires
-    returns-2)
+    (tie.spec (λ c κs. search needs) (search needs) (search needs) returns mul-wide shared-slice-read-wide (λ c κs. search needs) returns-2)
