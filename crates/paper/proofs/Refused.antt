@@ -171,6 +171,10 @@ blank : ℕ → ℕ → List ℕ
 blank n l =
     replicate (4 * n + 8 * l) 0 ++ bytesFrom ((4 * n + 8 * l) ∷ n ∷ (8 * l) ∷ l ∷ []) ++ ascii "PGT1"
 
+-- the area of one node without ports, with v for its order and s in the scratch: W = 17
+alone : ℕ → ℕ → List ℕ
+alone v s = 1 ∷ v ∷ 0 ∷ 0 ∷ 1 ∷ 0 ∷ 0 ∷ 1 ∷ 0 ∷ replicate 8 s
+
 -- ---- preparing
 
 prepares : List Case
@@ -285,13 +289,16 @@ unaccepted : ℕ → ℕ → Case
 unaccepted i x = refuses D (set lent i x) (port 3) 7 0 (set left i x)
 
 sentences : List Case
-unfolding D area lent left unaccepted
+unfolding D area lent left blank alone unaccepted
 sentences =
     -- "K ≤ L+N."
     unaccepted 0 7
-    -- "The order holds each node once."
+    -- "The order holds each node once.": 1 1 2, and a single node's order, which no link asks for
     ∷ unaccepted 1 1
-    -- "Both start lists begin at 0, strictly rise and end at L+K."
+    ∷ answers (blank 1 0) (alone 0 7) (line (0 ∷ [])) (1 ∷ 0 ∷ []) (alone 0 0) []
+    ∷ refuses (blank 1 0) (alone 5 7) (line (0 ∷ [])) 7 0 (alone 5 0)
+    -- "Both start lists begin at 0, strictly rise and end at L+K."; all words 0, as preparing leaves them after 4, 5, 6
+    ∷ refuses (blank 1 0) (replicate 17 0) (line (0 ∷ [])) 7 0 (replicate 17 0)
     ∷ unaccepted 7 1
     ∷ unaccepted 8 0
     ∷ unaccepted 10 4
@@ -441,5 +448,5 @@ unfolding prepares opens sentences lists records ports
 cases = prepares ++ opens ++ sentences ++ lists ++ records ++ ports
 
 pub every-refusal : T (all right cases)
-unfolding everything mapBytes inCount inLineReply inReply inWritten inPair right lentBuffer inNumbers plain withBuffer outcome gives cases prepares opens sentences lists records ports D area steps lent left unprepared zeros unmarked missing second missingAndSecond ring wide blank goodCalls badCalls everyCall unaccepted old D-refuses D-answers
+unfolding everything mapBytes inCount inLineReply inReply inWritten inPair right lentBuffer inNumbers plain withBuffer outcome gives cases prepares opens sentences lists records ports D area steps lent left unprepared zeros unmarked missing second missingAndSecond ring wide blank alone goodCalls badCalls everyCall unaccepted old D-refuses D-answers
 every-refusal = tt
