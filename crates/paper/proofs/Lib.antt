@@ -5,5 +5,6 @@ pub mod Recording
 pub mod Cases
 pub mod Vectors
 pub mod Recorded
+pub mod Refused
 pub mod Plain
 pub mod Promise
