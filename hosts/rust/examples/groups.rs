@@ -1,7 +1,7 @@
 //! Asks of map B of document 01 whether two groups of steps may each run as one block: 0 3, which leaves out step 1, and 0 1 3, which has it.
 
 use varddohas::line_convex_checker::{is_node_convex, Checked};
-use varddohas::{area_words, prepare};
+use varddohas::{area_words, prepare, Refusal};
 
 /// Inputs and outputs of each step, then the links (from step, output, to step, input), then the trailer.
 fn map_bytes(nodes: &[[u16; 2]], links: &[[u16; 4]]) -> Vec<u8> {
@@ -11,20 +11,19 @@ fn map_bytes(nodes: &[[u16; 2]], links: &[[u16; 4]]) -> Vec<u8> {
     fields.flat_map(|field| field.to_le_bytes()).chain(*b"PGT1").collect()
 }
 
-fn main() {
+fn main() -> Result<(), Refusal> {
     let nodes = [[0, 1], [1, 2], [1, 0], [1, 0], [0, 1], [1, 1], [1, 0]];
     let links = [[0, 0, 1, 0], [1, 0, 2, 0], [1, 1, 3, 0], [4, 0, 5, 0], [5, 0, 6, 0]];
     let map = map_bytes(&nodes, &links);
     let mut area = vec![0; area_words(7, 5, 10)];
-    match prepare(&map, &mut area) {
-        Ok(lines) => println!("lines: {lines}"),
-        Err(refused) => println!("map refused: {} ({})", refused.reason(), refused.place),
-    }
-    for group in [&[0, 3][..], &[0, 1, 3], &[0, 7]] {
+    println!("lines: {}", prepare(&map, &mut area)?);
+    for group in [&[0, 3][..], &[0, 1, 3], &[0, 7], &[]] {
         match is_node_convex(&map, &mut area, group) {
             Ok(Checked::Yes { count }) => println!("steps {group:?}: yes, {count} counted"),
             Ok(Checked::No { count }) => println!("steps {group:?}: no, {count} counted"),
-            Err(refused) => println!("steps {group:?}: {} at {}", refused.reason(), refused.place),
+            Err(Refusal::UnknownNode { entry }) => println!("steps {group:?}: there is no step {}", group[entry]),
+            Err(refusal) => println!("steps {group:?}: {refusal}"),
         }
     }
+    Ok(())
 }

@@ -1,6 +1,6 @@
 //! Slices as they cross, and a case's number as a result.
 
-use crate::Refused;
+use crate::Refusal;
 
 /// A lent slice: where it starts, and its length in bytes. Words stand low byte first on this machine, as they cross.
 pub(crate) struct Lent {
@@ -39,11 +39,11 @@ pub(crate) struct Numbers {
     pub place: u64,
 }
 
-/// What a case's number says: the answer, the other answer, or the refusal.
-pub(crate) fn told<T>(case: u64, numbers: &Numbers, answer: T, other: T) -> Result<T, Refused> {
-    match case {
-        1 => Ok(answer),
-        2 => Ok(other),
-        _ => Err(Refused { number: numbers.number, place: numbers.place }),
+/// What a case's number says: the answer, the other answer where the call has one, or the refusal.
+pub(crate) fn told<T>(case: u64, numbers: &Numbers, answer: T, other: Option<T>) -> Result<T, Refusal> {
+    match (case, other) {
+        (1, _) => Ok(answer),
+        (2, Some(other)) => Ok(other),
+        _ => Err(Refusal::told(numbers.number, numbers.place)),
     }
 }

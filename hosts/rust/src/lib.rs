@@ -1,7 +1,34 @@
 //! Whether a group of steps may run as one block: safe calls over the exported functions of `libvarddohas.a`, which are proved to answer as document
 //! 01 says, on all input. The types say the cases; nothing panics.
 //!
-//! A map is its bytes. An area is lent words: [`prepare`] lays a map's tables into it, and every other call tests them anew.
+//! A map is its bytes. An area is lent words: [`prepare`] lays a map's tables into it, and every other call tests them anew. A call that is refused says
+//! why ([`Refusal`]).
+//!
+//! ```
+//! use varddohas::line_convex_checker::{is_node_convex, Checked};
+//! use varddohas::{area_words, prepare, Refusal};
+//!
+//! // three steps, each feeding the next: inputs and outputs of each, then the links (from step, output, to step, input)
+//! let steps = [0u16, 1, 1, 1, 1, 0];
+//! let links = [0u16, 0, 1, 0, 1, 0, 2, 0];
+//! // how far back the steps begin, how many they are, how far back the links begin, how many they are; then the mark
+//! let trailer = [28u16, 3, 16, 2];
+//! let fields = steps.iter().chain(&links).chain(&trailer);
+//! let map: Vec<u8> = fields.flat_map(|field| field.to_le_bytes()).chain(*b"PGT1").collect();
+//!
+//! let mut area = [0; area_words(3, 2, 4)];
+//! assert_eq!(prepare(&map, &mut area)?, 1);
+//! // step 1 is left out, and stands between the two
+//! assert_eq!(is_node_convex(&map, &mut area, &[0, 2])?, Checked::No { count: 0 });
+//! assert_eq!(is_node_convex(&map, &mut area, &[0, 1, 2])?, Checked::Yes { count: 0 });
+//! assert_eq!(is_node_convex(&map, &mut area, &[0, 3]), Err(Refusal::UnknownNode { entry: 1 }));
+//! # Ok::<(), Refusal>(())
+//! ```
+//!
+//! # Stack
+//!
+//! Nothing is allocated: a call works on what is lent to it and on the stack, up to 163,840 bytes of it whatever is lent. [`stack`] has the figure of each
+//! call. The main thread and the threads of `std` have room for that, unless a smaller stack was asked for.
 
 #[cfg(not(all(target_arch = "x86_64", target_endian = "little")))]
 compile_error!("libvarddohas.a is built for x86-64");
@@ -9,14 +36,26 @@ compile_error!("libvarddohas.a is built for x86-64");
 mod exported;
 mod lent;
 pub mod line_convex_checker;
+mod refusal;
+pub mod stack;
 pub mod topo_convex_checker;
 
 use lent::{told, Lent, LentMut, Numbers};
+pub use refusal::Refusal;
 
-/// The most words that an area needs.
+/// The most words that an area needs, whatever the map.
+///
+/// ```
+/// assert_eq!(varddohas::LARGEST_AREA, varddohas::area_words(512, 2048, 4096));
+/// ```
 pub const LARGEST_AREA: usize = 31_751;
 
-/// How many words the area of a map needs: W of document 01.
+/// How many words the area of a map needs: W of document 01. A node's ports are its inputs and outputs.
+///
+/// ```
+/// // three steps in a row: two links, and a port at each of their ends
+/// assert_eq!(varddohas::area_words(3, 2, 4), 63);
+/// ```
 pub const fn area_words(nodes: usize, links: usize, ports: usize) -> usize {
     7usize
         .saturating_add(nodes.saturating_mul(10))
@@ -24,38 +63,17 @@ pub const fn area_words(nodes: usize, links: usize, ports: usize) -> usize {
         .saturating_add(ports.saturating_mul(2))
 }
 
-/// A refusal by its number in document 01's table, with its place.
-#[derive(Clone, Copy, Debug, PartialEq, Eq)]
-pub struct Refused {
-    pub number: u64,
-    pub place: u64,
-}
-
-impl Refused {
-    /// The table's words for the number.
-    pub fn reason(&self) -> &'static str {
-        match self.number {
-            1 => "length, distances or mark wrong",
-            2 => "a size limit passed",
-            3 => "area under W words",
-            4 => "link to a missing node or port",
-            5 => "second link on an input",
-            6 => "cycle",
-            7 => "tables not accepted",
-            8 => "empty list or no records",
-            9 => "unknown node",
-            10 => "entry equal to an earlier one",
-            11 => "result longer than the lent room",
-            12 => "bad record",
-            13 => "a node inside on one line and outside on another",
-            14 => "unknown port",
-            _ => "no number of the table",
-        }
-    }
-}
-
 /// Prepares an area for a map, and answers how many lines there are.
-pub fn prepare(map: &[u8], area: &mut [u16]) -> Result<u64, Refused> {
+///
+/// ```
+/// use varddohas::{area_words, prepare, Refusal};
+///
+/// // one step, without ports
+/// let map = [0, 0, 0, 0, 4, 0, 1, 0, 0, 0, 0, 0, b'P', b'G', b'T', b'1'];
+/// assert_eq!(prepare(&map, &mut [0; area_words(1, 0, 0)]), Ok(1));
+/// assert_eq!(prepare(&map, &mut [0; area_words(1, 0, 0) - 1]), Err(Refusal::NoRoom));
+/// ```
+pub fn prepare(map: &[u8], area: &mut [u16]) -> Result<u64, Refusal> {
     let mut numbers = Numbers::default();
     let (map, area) = (Lent::bytes(map), LentMut::words(area));
     // SAFETY: every pointer is of a slice or a number that is borrowed for the call, with its length in bytes.
@@ -70,5 +88,5 @@ pub fn prepare(map: &[u8], area: &mut [u16]) -> Result<u64, Refused> {
             &mut numbers.place,
         )
     };
-    told(case, &numbers, numbers.first, numbers.first)
+    told(case, &numbers, numbers.first, None)
 }

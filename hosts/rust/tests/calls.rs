@@ -2,7 +2,7 @@
 
 use varddohas::line_convex_checker::{self as line, Checked, Extended, Intervals, PortLines};
 use varddohas::topo_convex_checker::{self as topo, Ordered};
-use varddohas::{area_words, prepare, Refused, LARGEST_AREA};
+use varddohas::{area_words, prepare, Refusal, LARGEST_AREA};
 
 type Nodes<'a> = &'a [[u16; 2]];
 type Links<'a> = &'a [[u16; 4]];
@@ -34,10 +34,6 @@ fn prepared(map: (Nodes, Links), lines: u64) -> (Vec<u8>, Vec<u16>) {
     assert_eq!(prepare(&bytes, &mut area), Ok(lines));
     assert_eq!(area[words(map)..], [0x55aa; 3]);
     (bytes, area)
-}
-
-fn refused<T>(number: u64, place: u64) -> Result<T, Refused> {
-    Err(Refused { number, place })
 }
 
 #[test]
@@ -82,19 +78,73 @@ fn map_c_with_ports() {
 }
 
 #[test]
-fn refusals() {
-    let (map, mut area) = prepared(B, 3);
-    assert_eq!(prepare(&bytes(RING), &mut area.clone()), refused(6, 0));
+fn refusals_of_maps() {
+    let (map, area) = prepared(B, 3);
+    let (nodes, mut links) = (B.0, B.1.to_vec());
     assert_eq!(prepare(&bytes((&[], &[])), &mut [1; 7]), Ok(0));
-    assert_eq!(prepare(&map[1..], &mut area.clone()), refused(1, 0));
-    assert_eq!(prepare(&map, &mut vec![0; words(B) - 1]), refused(3, 0));
-    assert_eq!(line::is_node_convex(&map, &mut vec![0; LARGEST_AREA], &[0]), refused(7, 0));
-    assert_eq!(line::is_node_convex(&map, &mut area, &[]), refused(8, 0));
-    assert_eq!(line::is_node_convex(&map, &mut area, &[0, 0, 7]), refused(9, 2));
-    assert_eq!(line::is_node_convex(&map, &mut area, &[3, 3]), refused(10, 1));
-    assert_eq!(line::is_convex(&map, &mut area, &[3], &[1], &[2, 10]), refused(14, 1));
-    assert_eq!(line::get_intervals_from_nodes(&map, &mut area, &[1], &mut [0; 5]), refused(11, 2));
-    assert_eq!(line::is_convex_by_intervals(&map, &mut area, &[0; 8], 3), refused(12, 2));
-    assert_eq!(line::is_convex_by_intervals(&map, &mut area, &[0, 0, 1], 1), refused(13, 1));
-    assert_eq!(line::view_lines_at_port(&map, &area, 10), refused(14, 0));
+    assert_eq!(prepare(&map[1..], &mut area.clone()), Err(Refusal::Malformed));
+    assert_eq!(prepare(&bytes((&[[0, 0]; 513], &[])), &mut area.clone()), Err(Refusal::TooLarge));
+    assert_eq!(prepare(&map, &mut vec![0; words(B) - 1]), Err(Refusal::NoRoom));
+    links[4][2] = 7;
+    assert_eq!(prepare(&bytes((nodes, &links)), &mut area.clone()), Err(Refusal::MissingEnd { link: 4 }));
+    links[4][2] = 5;
+    assert_eq!(prepare(&bytes((nodes, &links)), &mut area.clone()), Err(Refusal::SecondLink { link: 4 }));
+    assert_eq!(prepare(&bytes(RING), &mut area.clone()), Err(Refusal::Cycle { node: 0 }));
+}
+
+#[test]
+fn refusals_of_questions() {
+    let (map, mut area) = prepared(B, 3);
+    assert_eq!(line::is_node_convex(&map, &mut vec![0; LARGEST_AREA], &[0]), Err(Refusal::NotAccepted));
+    assert_eq!(line::is_node_convex(&map, &mut area, &[]), Err(Refusal::Empty));
+    assert_eq!(line::is_node_convex(&map, &mut area, &[0, 0, 7]), Err(Refusal::UnknownNode { entry: 2 }));
+    assert_eq!(line::is_node_convex(&map, &mut area, &[3, 3]), Err(Refusal::RepeatedNode { entry: 1 }));
+    assert_eq!(line::is_convex(&map, &mut area, &[3], &[1], &[2, 10]), Err(Refusal::UnknownPort { entry: 1 }));
+    assert_eq!(line::get_intervals_from_nodes(&map, &mut area, &[1], &mut [0; 5]), Err(Refusal::TooLong { needed: 2 }));
+    assert_eq!(line::is_convex_by_intervals(&map, &mut area, &[0; 8], 3), Err(Refusal::BadRecord { record: 2 }));
+    assert_eq!(line::is_convex_by_intervals(&map, &mut area, &[0, 0, 1], 1), Err(Refusal::Straddling { node: 1 }));
+    assert_eq!(line::view_lines_at_port(&map, &area, 10), Err(Refusal::UnknownPort { entry: 0 }));
+}
+
+/// Prepares a map and checks a list of it, handing every refusal on.
+fn lines_and_check(map: &[u8], area: &mut [u16], list: &[u16]) -> Result<(u64, Checked), Box<dyn std::error::Error>> {
+    Ok((prepare(map, area)?, line::is_node_convex(map, area, list)?))
+}
+
+#[test]
+fn a_refusal_is_an_error() {
+    let mut area = vec![0; words(B)];
+    assert_eq!(lines_and_check(&bytes(B), &mut area, &[0, 3]).ok(), Some((3, Checked::No { count: 1 })));
+    let error = lines_and_check(&bytes(B), &mut area, &[0, 7]).unwrap_err();
+    assert_eq!(error.to_string(), "entry 1 is no node of the map");
+    assert_eq!(error.downcast_ref(), Some(&Refusal::UnknownNode { entry: 1 }));
+}
+
+/// The header's figure of a name, as it stands there.
+fn promised(name: &str) -> Option<usize> {
+    let start = format!("#define VARDDOHAS_STACK{name} ");
+    let line = include_str!("../../c/varddohas.h").lines().find_map(|line| line.strip_prefix(&start));
+    line.and_then(|figure| figure.parse().ok())
+}
+
+#[test]
+fn stack_figures_are_those_of_the_header() {
+    use varddohas::stack::*;
+    let figures = [
+        ("", LARGEST),
+        ("_PREPARE", PREPARE),
+        ("_LINE_IS_NODE_CONVEX", LINE_IS_NODE_CONVEX),
+        ("_LINE_IS_CONVEX", LINE_IS_CONVEX),
+        ("_TOPO_IS_NODE_CONVEX", TOPO_IS_NODE_CONVEX),
+        ("_TOPO_IS_CONVEX", TOPO_IS_CONVEX),
+        ("_GET_INTERVALS_FROM_NODES", GET_INTERVALS_FROM_NODES),
+        ("_IS_CONVEX_BY_INTERVALS", IS_CONVEX_BY_INTERVALS),
+        ("_TRY_EXTEND_INTERVALS", TRY_EXTEND_INTERVALS),
+        ("_NODES_IN_INTERVALS", NODES_IN_INTERVALS),
+        ("_LINES_AT_PORT", LINES_AT_PORT),
+        ("_VIEW_LINES_AT_PORT", VIEW_LINES_AT_PORT),
+    ];
+    for (name, figure) in figures {
+        assert_eq!(promised(name), Some(figure), "{name}");
+    }
 }
