@@ -1,9 +1,7 @@
 -- Each answer's meaning tells its cases apart, so that two admissible answers coincide.
--- Rests on Said.
+-- Rests on Said and refusals' Answers.
 use Prim.Native.Nat.{ℕ}
 use mathlib.Core.Path.{_≡_, refl, sym, ap, _∙_}
-use mathlib.Core.List.{[], _∷_}
-use lib.ListN.{getD}
 use Rattle.paper.specs.Refusals.{Answer, refused, answered, refusal}
 use Rattle.refusals.specs.declared.Refusal.{Refusal}
 use Rattle.refusals.proofs.Answers.{meant, meant-back}
@@ -11,21 +9,16 @@ use Rattle.convex.specs.Said.{preparedSaid, portLinesSaid}
 use Rattle.convex.specs.declared.line_convex_checker.PortLines.{PortLines}
 use Rattle.convex.specs.declared.line_convex_checker.PortLines.the-variants as Port
 use Rattle.convex.specs.declared.prepare.Prepared.{Prepared}
-use Rattle.convex.specs.declared.prepare.Prepared.the-variants.{Malformed, TooLarge, NoRoom, Missing, Second, Cycle, Lines}
+use Rattle.convex.specs.declared.prepare.Prepared.the-variants as Prepare
 
 prepared-meant : Answer ℕ → Prepared
-prepared-meant (answered k) = Lines k
-prepared-meant (refused i v) = getD (NoRoom ∷ Malformed ∷ TooLarge ∷ NoRoom ∷ Missing v ∷ Second v ∷ Cycle v ∷ []) i NoRoom
+prepared-meant (answered k) = Prepare.Lines k
+prepared-meant (refused i v) = Prepare.Refused (meant (refusal i v))
 
 prepared-back : (r : Prepared) → prepared-meant (preparedSaid r) ≡ r
 unfolding prepared-meant
-prepared-back Malformed = refl
-prepared-back TooLarge = refl
-prepared-back NoRoom = refl
-prepared-back (Missing k) = refl
-prepared-back (Second k) = refl
-prepared-back (Cycle v) = refl
-prepared-back (Lines k) = refl
+prepared-back (Prepare.Lines k) = refl
+prepared-back (Prepare.Refused x) = ap (λ (y : Refusal). Prepare.Refused y) (meant-back x)
 
 pub preparedSaid-injective : (r s : Prepared) → preparedSaid r ≡ preparedSaid s → r ≡ s
 preparedSaid-injective r s e = sym (prepared-back r) ∙ ap prepared-meant e ∙ prepared-back s

@@ -30,23 +30,18 @@ use Rattle.stepmap.proofs.Answers.{read-well}
 use Rattle.toposort.proofs.Refusing.{passed-said}
 use Rattle.opening.specs.Opened.{HasScratch, OpenLeft, openedSaid, scratchZeroed}
 use Rattle.opening.specs.declared.Opened.{Opened}
-use Rattle.opening.specs.declared.Opened.the-variants.{Malformed, TooLarge, NoRoom, Missing, Second, NotAccepted, Ready}
+use Rattle.opening.specs.declared.Opened.the-variants.{Ready, Refused}
 use Rattle.opening.proofs.Opened.{the-type}
 use Rattle.tables.specs.Answered.{Answered, AnsweredInto}
 use Rattle.tables.specs.Usable.{Usable, Scratched, scratchAt, scratchSize}
 use Rattle.tables.proofs.Within.{within-none, within-both, within-sets, within-filled}
 use Rattle.tables.proofs.Usable.{in-use-still, still-usable, roomy as wordy}
 
--- an opening in one of its first six cases is a refusal
-pub is-refusal : (o : Opened) → OneOf (0 ∷ 1 ∷ 2 ∷ 3 ∷ 4 ∷ 5 ∷ []) (tagOf the-type o) → ruling (openedSaid o) ≢ passed
+-- an opening that is not ready is a refusal
+pub is-refusal : (o : Opened) → OneOf (1 ∷ []) (tagOf the-type o) → ruling (openedSaid o) ≢ passed
 unfolding ruling
-is-refusal Malformed h e = no-refusal (sym e)
-is-refusal TooLarge h e = no-refusal (sym e)
-is-refusal NoRoom h e = no-refusal (sym e)
-is-refusal (Missing k) h e = no-refusal (sym e)
-is-refusal (Second k) h e = no-refusal (sym e)
-is-refusal NotAccepted h e = no-refusal (sym e)
-is-refusal (Ready n l p) h e = miss (0 ∷ 1 ∷ 2 ∷ 3 ∷ 4 ∷ 5 ∷ []) 6 tt h
+is-refusal (Ready n l p) h e = miss (1 ∷ []) 0 tt h
+is-refusal (Refused x) h e = no-refusal (sym e)
 
 module _ {b a : List ℕ} {o : Opened} {m : List ℕ} (known : OpenLeft b a o m) where
   -- the rule that decides

@@ -5,8 +5,6 @@ use native.Mathlib.Omega.{arith}
 use mathlib.Core.Path.{_≡_, sym, ap, ap₂, _∙_}
 use mathlib.Core.Logic.{_≢_}
 use mathlib.Core.List.{List, [], _∷_, _++_}
-use types.Run.{OneOf, miss}
-use denote.Enum.Declared.{tagOf}
 use Rattle.paper.specs.Map.{N, L, P}
 use Rattle.paper.specs.Lines.{tables}
 use Rattle.paper.specs.Area.{cleared, prepared}
@@ -15,32 +13,19 @@ use Rattle.paper.specs.Calls.{Left, untouched, unprepared, prepare}
 use Rattle.stepmap.specs.Formed.{ReadWell}
 use Rattle.stepmap.proofs.Answers.{read-well}
 use Rattle.toposort.specs.declared.ordering.Ordered.{Ordered}
-use Rattle.toposort.specs.declared.ordering.Ordered.the-variants.{Malformed, TooLarge, NoRoom, Missing, Second, Cycle, Done}
+use Rattle.toposort.specs.declared.ordering.Ordered.the-variants.{Done}
 use Rattle.toposort.specs.Laid.{Ready, OrderLeft, orderLaid, orderedSaid, zeroed}
-use Rattle.toposort.proofs.ordering.Ordered.{the-type}
 use Rattle.toposort.proofs.Refusing.{passed-said, passed-kept}
 use Rattle.toposort.proofs.Sizing.{words, laid-is}
 use Rattle.line_tables.specs.Laying.{Laying}
-use Rattle.refusals.specs.Said.{ruling}
-use Rattle.refusals.proofs.Rulings.{no-refusal, ruling-answer, refused-so, left-so, head-passed, both-passed, roomy}
-use Rattle.convex.specs.Said.{preparedSaid}
-use Rattle.convex.specs.declared.prepare.Prepared.{Prepared}
+use Rattle.refusals.specs.Said.{ruled, ruling, refusedBy}
+use Rattle.refusals.specs.declared.Refusal.{Refusal}
+use Rattle.refusals.proofs.Rulings.{ruling-answer, refused-so, left-so, head-passed, both-passed, roomy}
 use Rattle.convex.proofs.FromOrder.{laying, prepared-over}
 
 -- an answer and the area's words, as a call leaves them
 same-left : {x y : Answer ℕ} {m o : List ℕ} → x ≡ y → m ≡ o → _≡_ {A = Left ℕ} (record { answer = x; area = m }) (record { answer = y; area = o })
 same-left e f = ap₂ (λ (x : Answer ℕ) (m : List ℕ). record { answer = x; area = m }) e f
-
--- an ordering in one of its first six cases is a refusal
-pub is-refusal : (o : Ordered) → OneOf (0 ∷ 1 ∷ 2 ∷ 3 ∷ 4 ∷ 5 ∷ []) (tagOf the-type o) → ruling (orderedSaid o) ≢ passed
-unfolding ruling
-is-refusal Malformed h e = no-refusal (sym e)
-is-refusal TooLarge h e = no-refusal (sym e)
-is-refusal NoRoom h e = no-refusal (sym e)
-is-refusal (Missing k) h e = no-refusal (sym e)
-is-refusal (Second k) h e = no-refusal (sym e)
-is-refusal (Cycle v) h e = no-refusal (sym e)
-is-refusal (Done n l p) h e = miss (0 ∷ 1 ∷ 2 ∷ 3 ∷ 4 ∷ 5 ∷ []) 6 tt h
 
 module _ {b a : List ℕ} {o : Ordered} {m : List ℕ} (known : OrderLeft b a o m) where
   -- the rule that decides
@@ -49,12 +34,12 @@ module _ {b a : List ℕ} {o : Ordered} {m : List ℕ} (known : OrderLeft b a o 
 
   -- ---- a refusal
 
-  pub refused-up : (r : Prepared) → ruling (orderedSaid o) ≢ passed → ruling (preparedSaid r) ≡ ruling (orderedSaid o)
-      → record { answer = preparedSaid r; area = m } ≡ prepare b a
-  unfolding prepare
-  refused-up r ne e =
+  pub refused-up : (x : Refusal) → ruling (orderedSaid o) ≢ passed → ruled x ≡ ruling (orderedSaid o)
+      → record { answer = refusedBy x; area = m } ≡ prepare b a
+  unfolding prepare ruling
+  refused-up x ne e =
       let out : decide (untouched b a ++ unprepared b) ≢ passed = λ q. ne (ordering-ruled ∙ q) in
-      same-left (refused-so (preparedSaid r) (e ∙ ordering-ruled) out (tables b .count))
+      same-left (refused-so (refusedBy x) (e ∙ ordering-ruled) out (tables b .count))
       (known .left ∙ left-so (untouched b a) (unprepared b) out a (cleared b a) (orderLaid b (cleared b a) (N b) (L b) (P b)) (prepared b a))
 
   -- ---- an order

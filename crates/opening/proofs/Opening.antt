@@ -1,11 +1,11 @@
 -- What is left of a map that passes 1 and 2, and of any map, put together from the rules' answers.
--- Rests on toposort's Refusing and Sizing, and on paper's Area.
+-- Rests on toposort's Refusing and Sizing, refusals' Answers and paper's Area.
 use Prim.Native.Nat.{ℕ, _+_, _*_, _≤_, _<_}
 use native.Mathlib.Omega.{arith}
 use mathlib.Core.Path.{_≡_, refl, sym, ap, ap₂, _∙_}
 use mathlib.Core.Bool.{Bool, true, false, not}
 use mathlib.Core.List.{List, [], _∷_}
-use lib.ListN.{length, getD, replicate}
+use lib.ListN.{length, replicate}
 use lib.Seq.{sets}
 use Rattle.lists.specs.Found.{placed}
 use Rattle.paper.specs.Map.{N, L, P}
@@ -13,13 +13,17 @@ use Rattle.paper.specs.Area.{Section, size, start, scratchCleared}
 use Rattle.paper.specs.Accepted.{accepted}
 use Rattle.paper.specs.Calls.{untouched, areaAfter, opening}
 use Rattle.paper.specs.Refusals.{Ruling, passed, refusal, refuse, Answer, answer, onRefusal, refused, answered, decide, rule1, rule2, rule3, rule45, rule7}
+use Rattle.refusals.specs.Said.{ruled, refusedBy}
+use Rattle.refusals.specs.declared.Refusal.{Refusal}
+use Rattle.refusals.specs.declared.Refusal.the-variants.{NoRoom}
+use Rattle.refusals.proofs.Answers.{meant, meant-back}
 use Rattle.stepmap.specs.Formed.{ReadWell}
 use Rattle.stepmap.proofs.Known.{well-at}
 use Rattle.acceptance.specs.Testable.{Testable}
 use Rattle.toposort.proofs.Refusing.{refused-said, passed-said, passed-kept, refused-kept, next, here, alone, after, before}
-use Rattle.toposort.proofs.Sizing.{short, roomy, was-refused, sizes}
+use Rattle.toposort.proofs.Sizing.{short, roomy, sizes}
 use Rattle.opening.specs.declared.Opened.{Opened}
-use Rattle.opening.specs.declared.Opened.the-variants.{Malformed, TooLarge, NoRoom, Missing, Second, NotAccepted, Ready}
+use Rattle.opening.specs.declared.Opened.the-variants.{Ready, Refused}
 use Rattle.opening.specs.Opened.{Roomy, HasScratch, SizedLeft, OpenLeft, openedSaid, scratchZeroed}
 
 abbrev Sizes : Type 0
@@ -28,25 +32,25 @@ Sizes = ℕ × ℕ × ℕ
 -- ---- 4, 5 and 7
 
 -- 4 or 5: a bad link
-pub bad-link : (b a : List ℕ) {i k : ℕ} (s : Sizes) → refusal i k ≡ rule45 b → refused i k ≡ answer (decide (rule45 b ∷ rule7 b a ∷ [])) s
-bad-link b a s e = refused-said (here e (rule7 b a ∷ [])) s
+pub bad-link : (b a : List ℕ) (s : Sizes) (x : Refusal) → ruled x ≡ rule45 b → refusedBy x ≡ answer (decide (rule45 b ∷ rule7 b a ∷ [])) s
+bad-link b a s x e = refused-said (here e (rule7 b a ∷ [])) s
 
 -- sound links let the tables be tested
 pub testable : {b a : List ℕ} {n l p : ℕ} → Roomy b a n l p → passed ≡ rule45 b → Testable b a n l
 testable ready e = record { read = well-at (ready .read); links = sym e; room = omega (arith, ready .room) }
 
 module _ (b a : List ℕ) (s : Sizes) (sound : passed ≡ rule45 b) {r : Bool} (is : r ≡ accepted b a) where
-  ruled : {t : Bool} → not r ≡ t → refuse 7 (placed t 0) ≡ decide (rule45 b ∷ rule7 b a ∷ [])
+  ruled-7 : {t : Bool} → not r ≡ t → refuse 7 (placed t 0) ≡ decide (rule45 b ∷ rule7 b a ∷ [])
   unfolding rule7
-  ruled e = ap (λ (t : Bool). refuse 7 (placed t 0)) (sym e ∙ ap not is) ∙ alone (rule7 b a) ∙ next sound (rule7 b a ∷ [])
+  ruled-7 e = ap (λ (t : Bool). refuse 7 (placed t 0)) (sym e ∙ ap not is) ∙ alone (rule7 b a) ∙ next sound (rule7 b a ∷ [])
 
   pub not-accepted : not r ≡ true → refused 7 0 ≡ answer (decide (rule45 b ∷ rule7 b a ∷ [])) s
   unfolding refuse
-  not-accepted e = refused-said (ruled e) s
+  not-accepted e = refused-said (ruled-7 e) s
 
   pub is-accepted : not r ≡ false → answered s ≡ answer (decide (rule45 b ∷ rule7 b a ∷ [])) s
   unfolding refuse
-  is-accepted e = passed-said (ruled e) s
+  is-accepted e = passed-said (ruled-7 e) s
 
 -- ---- 3: the room for W words
 
@@ -59,7 +63,7 @@ module _ {b : List ℕ} {n l p : ℕ} (read : ReadWell b n l p) (a : List ℕ) w
       → x ≡ answer (decide (rule3 b a ∷ rule45 b ∷ rule7 b a ∷ [])) (n, l, p)
   room-said h e = e ∙ ap (λ (u : Ruling). answer u (n, l, p)) (next (roomy read a h) (rule45 b ∷ rule7 b a ∷ []))
 
-  pub no-room : {m : List ℕ} → length a < 7 + 10 * n + 9 * l + 2 * p → m ≡ a → SizedLeft b a n l p NoRoom m
+  pub no-room : {m : List ℕ} → length a < 7 + 10 * n + 9 * l + 2 * p → m ≡ a → SizedLeft b a n l p (Refused NoRoom) m
   no-room h e = record { said = no-room-said h; left = refused-kept (short read a h) (scratchZeroed a n l p) e }
 
   pub room : {r : Opened} {m : List ℕ} → 7 + 10 * n + 9 * l + 2 * p ≤ length a → openedSaid r ≡ answer (decide (rule45 b ∷ rule7 b a ∷ [])) (n, l, p)
@@ -75,19 +79,16 @@ has-scratch read room =
 
 module _ (b a : List ℕ) where
   -- 1 or 2
-  module _ {i : ℕ} (e : _≡_ {A = Answer Sizes} (refused i 0) (answer (decide (rule1 b ∷ rule2 b ∷ [])) (N b, L b, P b))) where
-    first-two : refusal i 0 ≡ decide (rule1 b ∷ rule2 b ∷ [])
-    first-two = was-refused (N b, L b, P b) (decide (rule1 b ∷ rule2 b ∷ [])) e
-
-    pub unread-said : _≡_ {A = Answer Sizes} (refused i 0) (answer (decide (opening b a)) (N b, L b, P b))
+  module _ (x : Refusal) (first-two : ruled x ≡ decide (rule1 b ∷ rule2 b ∷ [])) where
+    pub unread-said : _≡_ {A = Answer Sizes} (refusedBy x) (answer (decide (opening b a)) (N b, L b, P b))
     unfolding opening untouched
     unread-said = refused-said (before (rule1 b ∷ rule2 b ∷ []) (rule3 b a ∷ rule45 b ∷ rule7 b a ∷ []) first-two) (N b, L b, P b)
 
-    pub unread : {r : Opened} {m : List ℕ} → openedSaid r ≡ refused i 0 → m ≡ a → OpenLeft b a r m
+    pub unread : {m : List ℕ} → m ≡ a → OpenLeft b a (Refused x) m
     unfolding areaAfter untouched
-    unread s f =
+    unread f =
         record {
-          said = s ∙ unread-said;
+          said = unread-said;
           left = refused-kept (before (rule1 b ∷ rule2 b ∷ []) (rule3 b a ∷ []) first-two) (scratchCleared b a) f;
         }
 
@@ -124,19 +125,14 @@ module _ (b a : List ℕ) where
 
 -- ---- each answer's meaning tells its cases apart
 
-meant : Answer Sizes → Opened
-meant (answered (n, l, p)) = Ready n l p
-meant (refused i v) = getD (NoRoom ∷ Malformed ∷ TooLarge ∷ NoRoom ∷ Missing v ∷ Second v ∷ NoRoom ∷ NotAccepted ∷ []) i NoRoom
+meant-opened : Answer Sizes → Opened
+meant-opened (answered (n, l, p)) = Ready n l p
+meant-opened (refused i v) = Refused (meant (refusal i v))
 
-meant-said : (r : Opened) → meant (openedSaid r) ≡ r
-unfolding meant
-meant-said Malformed = refl
-meant-said TooLarge = refl
-meant-said NoRoom = refl
-meant-said (Missing k) = refl
-meant-said (Second k) = refl
-meant-said NotAccepted = refl
-meant-said (Ready n l p) = refl
+opened-back : (r : Opened) → meant-opened (openedSaid r) ≡ r
+unfolding meant-opened
+opened-back (Ready n l p) = refl
+opened-back (Refused x) = ap (λ (y : Refusal). Refused y) (meant-back x)
 
 pub openedSaid-injective : (r s : Opened) → openedSaid r ≡ openedSaid s → r ≡ s
-openedSaid-injective r s e = sym (meant-said r) ∙ ap meant e ∙ meant-said s
+openedSaid-injective r s e = sym (opened-back r) ∙ ap meant-opened e ∙ opened-back s

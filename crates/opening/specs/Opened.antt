@@ -1,26 +1,22 @@
 -- What opening a call says, in 01's numbers and values, and what it leaves in the area.
--- Rests on paper's Calls and stepmap's ReadWell.
+-- Rests on paper's Calls, refusals' Said and stepmap's ReadWell.
 use Prim.Native.Nat.{ℕ, _+_, _*_, _≤_}
 use mathlib.Core.Path.{_≡_}
 use mathlib.Core.List.{List, [], _∷_}
 use lib.ListN.{length, replicate}
 use lib.Seq.{sets}
 use Rattle.paper.specs.Map.{N, L, P}
-use Rattle.paper.specs.Refusals.{rule3, rule45, rule7, decide, Answer, answer, refused, answered, onRefusal}
+use Rattle.paper.specs.Refusals.{rule3, rule45, rule7, decide, Answer, answer, answered, onRefusal}
 use Rattle.paper.specs.Calls.{areaAfter, opening}
+use Rattle.refusals.specs.Said.{refusedBy}
 use Rattle.stepmap.specs.Formed.{ReadWell}
 use Rattle.opening.specs.declared.Opened.{Opened}
-use Rattle.opening.specs.declared.Opened.the-variants.{Malformed, TooLarge, NoRoom, Missing, Second, NotAccepted, Ready}
+use Rattle.opening.specs.declared.Opened.the-variants.{Ready, Refused}
 
 -- 01's number and values for each case
 abbrev pub openedSaid : Opened → Answer (ℕ × ℕ × ℕ)
-openedSaid Malformed = refused 1 0
-openedSaid TooLarge = refused 2 0
-openedSaid NoRoom = refused 3 0
-openedSaid (Missing k) = refused 4 k
-openedSaid (Second k) = refused 5 k
-openedSaid NotAccepted = refused 7 0
 openedSaid (Ready n l p) = answered (n, l, p)
+openedSaid (Refused x) = refusedBy x
 
 -- a map that passes 1 and 2, and an area that passes 3
 pub record Roomy (b a : List ℕ) (n l p : ℕ) : Type 0 where

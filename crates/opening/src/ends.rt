@@ -6,6 +6,7 @@ ghost use Rattle.refusals.specs.Said.{ruled, ruling};
 ghost use Rattle.opening.specs.Opened.{HasScratch, openedSaid, scratchZeroed};
 use super::Opened;
 use refusals::Refusal;
+use refusals::never;
 use words::section::fill;
 
 // An opening's refusal; `Ready`, which the caller has taken apart, is none.
@@ -13,19 +14,10 @@ pub fn refusal(opened: Opened) -> Refusal
     requires { ⌜ ruling (openedSaid opened) ≢ passed ⌝ }
     ensures { λ r. ⌜ ruled r ≡ ruling (openedSaid opened) ⌝ }
 {
-    match opened {
-        Opened::Malformed => Refusal::Malformed,
-        Opened::TooLarge => Refusal::TooLarge,
-        Opened::NoRoom => Refusal::NoRoom,
-        Opened::Missing(k) => Refusal::Missing(k),
-        Opened::Second(k) => Refusal::Second(k),
-        Opened::NotAccepted => Refusal::NotAccepted,
-        Opened::Ready {
-            nodes: _,
-            links: _,
-            ports: _,
-        } => Refusal::NotAccepted,
-    }
+    let Opened::Refused(x) = opened else {
+        return never();
+    };
+    x
 }
 
 // Sets the scratch of a map of n nodes, l links and p ports to 0.

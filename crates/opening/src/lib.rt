@@ -10,24 +10,22 @@ ghost use Rattle.stepmap.specs.Formed.{ReadWell};
 ghost use Rattle.opening.specs.Opened.{OpenLeft, Roomy, SizedLeft, openedSaid};
 use acceptance::accepted;
 use ends::clear_scratch;
+use refusals::Refusal;
 use stepmap::links::Links;
 use stepmap::links::check_links;
+use stepmap::links::link_refusal;
 use stepmap::read::StepMap;
+use stepmap::read::map_refusal;
 use stepmap::read::read_map;
 
-// What opening a call comes to: refusals 1, 2, 3, 4, 5, 7, or the map's sizes.
+// What opening a call comes to: the map's sizes, or refusals 1, 2, 3, 4, 5, 7.
 pub enum Opened {
-    Malformed,
-    TooLarge,
-    NoRoom,
-    Missing(usize),
-    Second(usize),
-    NotAccepted,
     Ready {
         nodes: usize,
         links: usize,
         ports: usize,
     },
+    Refused(Refusal),
 }
 
 // Tests the links and the tables where 1, 2 and 3 have passed: refusals 4, 5 and 7.
@@ -36,17 +34,11 @@ fn test_tables(b: &[u8], n: usize, l: usize, p: usize, area: &[u16]) -> Opened
     ensures { λ r. ⌜ openedSaid r ≡ answer (decide (rule45 (now (b .entry)) ∷ rule7 (now (b .entry)) (now (area .entry)) ∷ [])) (n, l, p) ⌝ }
 {
     let found = check_links(b, n, l);
-    match found {
-        Links::Missing(k) => {
-            return Opened::Missing(k);
-        }
-        Links::Second(k) => {
-            return Opened::Second(k);
-        }
-        Links::Sound => {}
-    }
+    let Links::Sound = found else {
+        return Opened::Refused(link_refusal(found));
+    };
     if !accepted(b, n, l, area) {
-        return Opened::NotAccepted;
+        return Opened::Refused(Refusal::NotAccepted);
     }
     Opened::Ready {
         nodes: n,
@@ -62,7 +54,7 @@ fn open_sized(b: &[u8], n: usize, l: usize, p: usize, area: &mut [u16]) -> Opene
     ensures { λ r. ⌜ SizedLeft (now (b .entry)) (now (area .entry)) n l p r (now (area .exit)) ⌝ }
 {
     if area.len() < 7 + 10 * n + 9 * l + 2 * p {
-        return Opened::NoRoom;
+        return Opened::Refused(Refusal::NoRoom);
     }
     let found = test_tables(b, n, l, p, area);
     clear_scratch(area, n, l, p);
@@ -74,15 +66,15 @@ pub fn open(map: &[u8], area: &mut [u16]) -> Opened
     ensures { λ r. ⌜ OpenLeft (now (map .entry)) (now (area .entry)) r (now (area .exit)) ⌝ }
 {
     let read = read_map(map);
-    match read {
-        StepMap::Malformed => Opened::Malformed,
-        StepMap::TooLarge => Opened::TooLarge,
-        StepMap::Sized {
-            nodes,
-            links,
-            ports,
-        } => open_sized(map, nodes, links, ports, area),
-    }
+    let StepMap::Sized {
+        nodes,
+        links,
+        ports,
+    } = read
+    else {
+        return Opened::Refused(map_refusal(read));
+    };
+    open_sized(map, nodes, links, ports, area)
 }
 
 // The same of a map that passes 1 and 2, where nothing is written.
@@ -92,7 +84,7 @@ fn open_sized_shared(b: &[u8], n: usize, l: usize, p: usize, area: &[u16]) -> Op
         ≡ answer (decide (rule3 (now (b .entry)) (now (area .entry)) ∷ rule45 (now (b .entry)) ∷ rule7 (now (b .entry)) (now (area .entry)) ∷ [])) (n, l, p) ⌝ }
 {
     if area.len() < 7 + 10 * n + 9 * l + 2 * p {
-        return Opened::NoRoom;
+        return Opened::Refused(Refusal::NoRoom);
     }
     test_tables(b, n, l, p, area)
 }
@@ -103,13 +95,13 @@ pub fn open_shared(map: &[u8], area: &[u16]) -> Opened
         ≡ answer (decide (opening (now (map .entry)) (now (area .entry)))) (N (now (map .entry)), L (now (map .entry)), P (now (map .entry))) ⌝ }
 {
     let read = read_map(map);
-    match read {
-        StepMap::Malformed => Opened::Malformed,
-        StepMap::TooLarge => Opened::TooLarge,
-        StepMap::Sized {
-            nodes,
-            links,
-            ports,
-        } => open_sized_shared(map, nodes, links, ports, area),
-    }
+    let StepMap::Sized {
+        nodes,
+        links,
+        ports,
+    } = read
+    else {
+        return Opened::Refused(map_refusal(read));
+    };
+    open_sized_shared(map, nodes, links, ports, area)
 }

@@ -12,6 +12,7 @@ use Rattle.refusals.specs.declared.Refusal.the-variants.{
   NoRoom,
   Missing,
   Second,
+  Cycle,
   NotAccepted,
   Empty,
   Unknown,
@@ -22,12 +23,12 @@ use Rattle.refusals.specs.declared.Refusal.the-variants.{
   TooLong,
 }
 
--- the reason of a rule, by its number from 0; 0 and 6 are no call's
+-- the reason of a rule, by its number from 0; 0 is no rule's
 pub meant : Ruling → Refusal
 meant passed = NoRoom
 meant (refusal i v) =
     getD
-    (NoRoom ∷ Malformed ∷ TooLarge ∷ NoRoom ∷ Missing v ∷ Second v ∷ NoRoom ∷ NotAccepted ∷ Empty ∷ Unknown v ∷ Repeated v ∷ TooLong v ∷ BadRecord v
+    (NoRoom ∷ Malformed ∷ TooLarge ∷ NoRoom ∷ Missing v ∷ Second v ∷ Cycle v ∷ NotAccepted ∷ Empty ∷ Unknown v ∷ Repeated v ∷ TooLong v ∷ BadRecord v
     ∷ Straddling v
     ∷ UnknownPort v
     ∷ [])
@@ -41,6 +42,7 @@ meant-back TooLarge = refl
 meant-back NoRoom = refl
 meant-back (Missing k) = refl
 meant-back (Second k) = refl
+meant-back (Cycle v) = refl
 meant-back NotAccepted = refl
 meant-back Empty = refl
 meant-back (Unknown i) = refl

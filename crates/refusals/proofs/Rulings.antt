@@ -2,7 +2,7 @@
 -- Rests on Said and paper's Refusals.
 use Prim.Native.Nat.{ℕ, _≤_}
 use native.Mathlib.Omega.{arith}
-use mathlib.Core.Path.{_≡_, refl, sym, ap}
+use mathlib.Core.Path.{_≡_, refl, sym, ap, _∙_}
 use mathlib.Core.Logic.{_≢_}
 use mathlib.Core.Bool.{Bool, true, false}
 use mathlib.Core.List.{List, [], _∷_, _++_}
@@ -21,6 +21,10 @@ module _ {A : Type 0} where
   unfolding ruling answer
   ruling-answer passed x = refl
   ruling-answer (refusal n v) x = refl
+
+  -- what rules an answer is the rule behind it
+  pub ruled-by : {q : Ruling} (r : Answer A) → q ≡ ruling r → (u : Ruling) (x : A) → r ≡ answer u x → q ≡ u
+  ruled-by r e u x f = e ∙ ap ruling f ∙ ruling-answer u x
 
   -- a refusal is all that the ruling says, whatever would else be answered
   pub refused-so : (r : Answer A) {u : Ruling} → ruling r ≡ u → u ≢ passed → (x : A) → r ≡ answer u x

@@ -9,6 +9,7 @@ use Rattle.refusals.specs.declared.Refusal.the-variants.{
   NoRoom,
   Missing,
   Second,
+  Cycle,
   NotAccepted,
   Empty,
   Unknown,
@@ -25,6 +26,7 @@ numberOf TooLarge = 2
 numberOf NoRoom = 3
 numberOf (Missing k) = 4
 numberOf (Second k) = 5
+numberOf (Cycle v) = 6
 numberOf NotAccepted = 7
 numberOf Empty = 8
 numberOf (Unknown i) = 9
@@ -40,6 +42,7 @@ placeOf TooLarge = 0
 placeOf NoRoom = 0
 placeOf (Missing k) = k
 placeOf (Second k) = k
+placeOf (Cycle v) = v
 placeOf NotAccepted = 0
 placeOf Empty = 0
 placeOf (Unknown i) = i

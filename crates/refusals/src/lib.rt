@@ -1,4 +1,4 @@
-// The refusals of 01's table that a call but preparing can give, each reason a case with its place.
+// The refusals of 01's table that a call can give, each reason a case with its place; 15 is the program's own.
 ghost use mathlib.Core.Path.{_≡_};
 ghost use Rattle.refusals.specs.Said.{numberOf, placeOf};
 
@@ -8,6 +8,7 @@ pub enum Refusal {
     NoRoom,
     Missing(usize),
     Second(usize),
+    Cycle(usize),
     NotAccepted,
     Empty,
     Unknown(usize),
@@ -28,6 +29,7 @@ pub fn number(x: Refusal) -> usize
         Refusal::NoRoom => 3,
         Refusal::Missing(_) => 4,
         Refusal::Second(_) => 5,
+        Refusal::Cycle(_) => 6,
         Refusal::NotAccepted => 7,
         Refusal::Empty => 8,
         Refusal::Unknown(_) => 9,
@@ -49,6 +51,7 @@ pub fn place(x: Refusal) -> usize
         Refusal::NoRoom => 0,
         Refusal::Missing(k) => k,
         Refusal::Second(k) => k,
+        Refusal::Cycle(v) => v,
         Refusal::NotAccepted => 0,
         Refusal::Empty => 0,
         Refusal::Unknown(i) => i,
@@ -58,4 +61,11 @@ pub fn place(x: Refusal) -> usize
         Refusal::Straddling(v) => v,
         Refusal::TooLong(needed) => needed,
     }
+}
+
+// Stands in an arm that is never taken: a caller has to show that nothing holds there, so no refusal is ever made up.
+pub fn never() -> Refusal
+    requires { ⌜ ⊥ ⌝ }
+{
+    loop {}
 }

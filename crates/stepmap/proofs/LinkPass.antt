@@ -1,10 +1,10 @@
 -- The pass over the links: what holds after k of them, what makes the next one ready to be checked, and the answer for all.
--- Rests on Marking, Known and Answers.
+-- Rests on Marking and Known.
 use Prim.Native.Nat.{ℕ, _+_, _≤_, _<_}
 use native.Mathlib.Omega.{arith}
 use mathlib.Core.Bool.{Bool, true, false, cond}
 use mathlib.Core.List.{List, map}
-use mathlib.Core.Logic.{_⊎_, inl, inr}
+use mathlib.Core.Logic.{_≢_}
 use mathlib.Core.Path.{_≡_, refl, sym, ap, _∙_, subst}
 use lib.ListN.{length, getD, set, length-set}
 use lib.Seq.{sets, length-sets}
@@ -18,7 +18,6 @@ use Rattle.stepmap.specs.Marks.{Blank, Firsts, Marked, LinkReady}
 use Rattle.stepmap.specs.Said.{linksSaid}
 use Rattle.stepmap.specs.declared.links.Links.{Links}
 use Rattle.stepmap.specs.declared.links.Links.the-variants.{Sound}
-use Rattle.stepmap.proofs.Answers.{linksSaid-injective}
 use Rattle.stepmap.proofs.Known.{has-link, numbered}
 use Rattle.lists.proofs.First.{first-is, first-next, first-absent}
 use Rattle.lists.proofs.Tests.{or-false-both}
@@ -101,12 +100,12 @@ module _ {b firsts marks : List ℕ} {n l k : ℕ} (well : ReadWell b n l (P b))
           size = sym (ap length written) ∙ length-set marks (targetPort b k) 1 ∙ pass .size;
         }
 
-    pub faulty-link : (found ≡ Sound → ⊥) → linksSaid found ≡ rule45 b
+    pub faulty-link : linksSaid found ≢ passed → linksSaid found ≡ rule45 b
     faulty-link fault = split (bad b k) refl
       where
         split : (t : Bool) → bad b k ≡ t → linksSaid found ≡ rule45 b
         split true h = said ∙ at-bad b k (pass .none) (omega (arith, well .links)) h
-        split false h = absurd (fault (linksSaid-injective found Sound (said ∙ no-fault b k h)))
+        split false h = absurd (fault (said ∙ no-fault b k h))
 
 -- ---- the end
 
@@ -115,8 +114,3 @@ unfolding rule45 refuseLink badLink
 all-sound {b} {k = k} well le pass =
     let all : L b ≡ k = omega (arith, well .links, pass .within) in
     sym (ap (refuseLink b) (ap (first (bad b)) all ∙ pass .none))
-
--- an enum's tag that is not that of `Sound`
-pub other-tag : (tag : Links → ℕ) → tag Sound ≡ 0 → {found : Links} → (tag found ≡ 1) ⊎ (tag found ≡ 2) → found ≡ Sound → ⊥
-other-tag tag zero (inl h) e = omega (arith, ap tag e)
-other-tag tag zero (inr h) e = omega (arith, ap tag e)

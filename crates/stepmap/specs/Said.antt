@@ -1,20 +1,19 @@
 -- The paper's number, place and values for each case of this crate's answers.
--- Rests on paper's Refusals.
+-- Rests on paper's Refusals and refusals' Said.
 use Prim.Native.Nat.{ℕ}
-use Rattle.paper.specs.Refusals.{Answer, refused, answered, Ruling, passed, refusal}
+use Rattle.paper.specs.Refusals.{Answer, answered, Ruling, passed}
+use Rattle.refusals.specs.Said.{ruled, refusedBy}
 use Rattle.stepmap.specs.declared.links.Links.{Links}
-use Rattle.stepmap.specs.declared.links.Links.the-variants.{Sound, Missing, Second}
+use Rattle.stepmap.specs.declared.links.Links.the-variants as Link
 use Rattle.stepmap.specs.declared.read.StepMap.{StepMap}
-use Rattle.stepmap.specs.declared.read.StepMap.the-variants.{Malformed, TooLarge, Sized}
+use Rattle.stepmap.specs.declared.read.StepMap.the-variants as Map
 
--- 1: "length, distances or mark wrong"; 2: "a size limit passed"; else N, L and P
+-- N, L and P; or 1: "length, distances or mark wrong", or 2: "a size limit passed"
 abbrev pub mapSaid : StepMap → Answer (ℕ × ℕ × ℕ)
-mapSaid Malformed = refused 1 0
-mapSaid TooLarge = refused 2 0
-mapSaid (Sized n l p) = answered (n, l, p)
+mapSaid (Map.Sized n l p) = answered (n, l, p)
+mapSaid (Map.Refused x) = refusedBy x
 
 -- 4: "link to a missing node or port"; 5: "second link on an input"; each at the link
 abbrev pub linksSaid : Links → Ruling
-linksSaid Sound = passed
-linksSaid (Missing k) = refusal 4 k
-linksSaid (Second k) = refusal 5 k
+linksSaid Link.Sound = passed
+linksSaid (Link.Refused x) = ruled x

@@ -6,22 +6,36 @@ use super::access::link_to;
 use super::access::num_inputs;
 use super::access::num_outputs;
 use super::ports::first_ports;
+use refusals::Refusal;
+use refusals::never;
 use words::field::wide;
 ghost use mathlib.Core.Path.{_≡_};
+ghost use mathlib.Core.Logic.{_≢_};
 ghost use mathlib.Core.Bool.{false, _||_, cond};
 ghost use lib.ListN.{length, set};
 ghost use Rattle.lists.specs.Found.{placed};
 ghost use Rattle.paper.specs.Map.{P, targetPort, missing, second};
-ghost use Rattle.paper.specs.Refusals.{refuseLink, rule45};
+ghost use Rattle.paper.specs.Refusals.{passed, refuseLink, rule45};
+ghost use Rattle.refusals.specs.Said.{ruled};
 ghost use Rattle.stepmap.specs.Formed.{HasLink, ReadWell};
 ghost use Rattle.stepmap.specs.Marks.{Blank, Firsts, LinkReady};
 ghost use Rattle.stepmap.specs.Said.{linksSaid};
 
-// What the check finds: no fault, refusal 4 at a link, or refusal 5 at a link.
+// What the check finds: no fault, or refusal 4 or 5 at a link.
 pub enum Links {
     Sound,
-    Missing(usize),
-    Second(usize),
+    Refused(Refusal),
+}
+
+// The links' refusal; `Sound`, which the caller has taken apart, is none.
+pub fn link_refusal(found: Links) -> Refusal
+    requires { ⌜ linksSaid found ≢ passed ⌝ }
+    ensures { λ r. ⌜ ruled r ≡ linksSaid found ⌝ }
+{
+    let Links::Refused(x) = found else {
+        return never();
+    };
+    x
 }
 
 fn node_room() -> [u16; 513]
@@ -77,11 +91,11 @@ fn check_link(b: &[u8], n: usize, k: usize, firsts: &[u16], marks: &mut [u16]) -
         (set (now (marks .entry)) (targetPort (now (b .entry)) k) 1) ⌝ }
 {
     if is_missing(b, n, k) {
-        return Links::Missing(k);
+        return Links::Refused(Refusal::Missing(k));
     }
     let target = target_port(b, n, k, firsts);
     if marks[target] == 1 {
-        return Links::Second(k);
+        return Links::Refused(Refusal::Second(k));
     }
     marks[target] = 1;
     Links::Sound

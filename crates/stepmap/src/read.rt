@@ -3,25 +3,39 @@ use super::access::num_inputs;
 use super::access::num_outputs;
 use super::access::number_at;
 use super::ports::first_port;
+use refusals::Refusal;
+use refusals::never;
 ghost use mathlib.Core.Path.{_≡_};
+ghost use mathlib.Core.Logic.{_≢_};
 ghost use mathlib.Core.List.{[], _∷_};
 ghost use Prim.Native.Nat.{_+_, _*_, _≤_};
 ghost use lib.ListN.{length, take, drop};
 ghost use Rattle.lists.specs.Lists.{all, upto, same};
 ghost use Rattle.paper.specs.Map.{N, L, P, PGT1, wellFormed};
-ghost use Rattle.paper.specs.Refusals.{decide, answer, rule1, rule2};
+ghost use Rattle.paper.specs.Refusals.{passed, decide, answer, rule1, rule2};
+ghost use Rattle.refusals.specs.Said.{ruled, ruling};
 ghost use Rattle.stepmap.specs.Formed.{fewPorts};
 ghost use Rattle.stepmap.specs.Said.{mapSaid};
 
-// What reading finds: refusal 1, refusal 2, or how many nodes, links and ports there are.
+// What reading finds: how many nodes, links and ports there are, or refusal 1 or 2.
 pub enum StepMap {
-    Malformed,
-    TooLarge,
     Sized {
         nodes: usize,
         links: usize,
         ports: usize,
     },
+    Refused(Refusal),
+}
+
+// A reading's refusal; `Sized`, which the caller has taken apart, is none.
+pub fn map_refusal(read: StepMap) -> Refusal
+    requires { ⌜ ruling (mapSaid read) ≢ passed ⌝ }
+    ensures { λ r. ⌜ ruled r ≡ ruling (mapSaid read) ⌝ }
+{
+    let StepMap::Refused(x) = read else {
+        return never();
+    };
+    x
 }
 
 // How many nodes the trailer says (the Rust's `node_count`).
@@ -105,22 +119,22 @@ pub fn read_map(b: &[u8]) -> StepMap
         (N (now (b .entry)), L (now (b .entry)), P (now (b .entry))) ⌝ }
 {
     if !well_formed(b) {
-        return StepMap::Malformed;
+        return StepMap::Refused(Refusal::Malformed);
     }
     let n = node_count(b);
     let l = link_count(b);
     if n > 512 {
-        return StepMap::TooLarge;
+        return StepMap::Refused(Refusal::TooLarge);
     }
     if l > 2048 {
-        return StepMap::TooLarge;
+        return StepMap::Refused(Refusal::TooLarge);
     }
     if !degrees_within(b, n) {
-        return StepMap::TooLarge;
+        return StepMap::Refused(Refusal::TooLarge);
     }
     let p = first_port(b, n);
     if p > 4096 {
-        return StepMap::TooLarge;
+        return StepMap::Refused(Refusal::TooLarge);
     }
     StepMap::Sized {
         nodes: n,

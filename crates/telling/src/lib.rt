@@ -46,16 +46,11 @@ pub fn tell_prepared(answer: Prepared, count: &mut u64, number: &mut u64, place:
         ≡ tell inCount (preparedSaid answer) (now (count .entry) ∷ []) (now (number .entry)) (now (place .entry)) ⌝ }
 {
     match answer {
-        Prepared::Malformed => put_refusal(1, 0, number, place),
-        Prepared::TooLarge => put_refusal(2, 0, number, place),
-        Prepared::NoRoom => put_refusal(3, 0, number, place),
-        Prepared::Missing(k) => put_refusal(4, k, number, place),
-        Prepared::Second(k) => put_refusal(5, k, number, place),
-        Prepared::Cycle(v) => put_refusal(6, v, number, place),
         Prepared::Lines(k) => {
             put(count, k);
             1
         }
+        Prepared::Refused(x) => tell_refusal(x, number, place),
     }
 }
 

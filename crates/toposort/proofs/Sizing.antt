@@ -1,11 +1,14 @@
 -- What is left of a map that passes 1 and 2, and of any map, put together from the rules' answers.
--- Rests on Refusing, paper's Area and stepmap's Answers.
+-- Rests on Refusing, paper's Area, refusals' Answers and stepmap's.
 use Prim.Native.Nat.{ℕ, _+_, _*_, _≤_, _<_}
 use native.Mathlib.Omega.{arith}
 use mathlib.Core.Path.{_≡_, refl, sym, ap, _∙_}
+use mathlib.Core.Logic.{_≢_}
 use mathlib.Core.List.{List, [], _∷_}
+use types.Run.{OneOf, miss}
+use denote.Enum.Declared.{tagOf}
 use borrow.Author.Tests.{lt-ltb, le-ltb}
-use lib.ListN.{length, getD, replicate}
+use lib.ListN.{length, replicate}
 use lib.Seq.{sets, length-sets}
 use Rattle.lists.specs.Found.{placed}
 use Rattle.lists.proofs.Sections.{sets-sets}
@@ -14,10 +17,16 @@ use Rattle.paper.specs.Area.{W, cleared}
 use Rattle.paper.specs.Calls.{untouched, unprepared}
 use Rattle.paper.specs.Refusals.{Ruling, passed, refusal, refuse, Answer, answer, onRefusal, refused, answered, decide, rule1, rule2, rule3, rule45, rule6}
 use Rattle.paper.proofs.Area.{W-sum}
+use Rattle.refusals.specs.Said.{ruled, ruling}
+use Rattle.refusals.specs.declared.Refusal.{Refusal}
+use Rattle.refusals.specs.declared.Refusal.the-variants.{NoRoom}
+use Rattle.refusals.proofs.Answers.{meant, meant-back}
+use Rattle.refusals.proofs.Rulings.{no-refusal}
 use Rattle.stepmap.specs.Formed.{ReadWell}
 use Rattle.toposort.specs.declared.ordering.Ordered.{Ordered}
-use Rattle.toposort.specs.declared.ordering.Ordered.the-variants.{Malformed, TooLarge, NoRoom, Missing, Second, Cycle, Done}
+use Rattle.toposort.specs.declared.ordering.Ordered.the-variants.{Done, Refused}
 use Rattle.toposort.specs.Laid.{Ready, SizedLeft, OrderLeft, orderLaid, orderedSaid, zeroed}
+use Rattle.toposort.proofs.ordering.Ordered.{the-type}
 use Rattle.toposort.proofs.Refusing.{refused-said, passed-kept, refused-kept, next, here, alone, after, before}
 
 abbrev Sizes : Type 0
@@ -37,7 +46,7 @@ module _ {b : List ℕ} {n l p : ℕ} (read : ReadWell b n l p) (a : List ℕ) w
   unfolding rule3 refuse
   roomy h = ap (λ t. refuse 3 (placed t 0)) (sym (le-ltb (length a) (W b) (omega (arith, words read))))
 
-  pub no-room : {m : List ℕ} → length a < 7 + 10 * n + 9 * l + 2 * p → m ≡ a → SizedLeft b a n l p NoRoom m
+  pub no-room : {m : List ℕ} → length a < 7 + 10 * n + 9 * l + 2 * p → m ≡ a → SizedLeft b a n l p (Refused NoRoom) m
   no-room h e =
       record {
         said = refused-said (here (short h) (rule45 b ∷ rule6 b ∷ [])) (n, l, p);
@@ -46,13 +55,13 @@ module _ {b : List ℕ} {n l p : ℕ} (read : ReadWell b n l p) (a : List ℕ) w
 
   -- ---- 4 and 5: a bad link
 
-  pub bad-link : {r : Ordered} {m : List ℕ} {i k : ℕ} → 7 + 10 * n + 9 * l + 2 * p ≤ length a → orderedSaid r ≡ refused i k → refusal i k ≡ rule45 b
-      → m ≡ sets a 0 (replicate (7 + 10 * n + 9 * l + 2 * p) 0) → SizedLeft b a n l p r m
+  pub bad-link : {m : List ℕ} (x : Refusal) → 7 + 10 * n + 9 * l + 2 * p ≤ length a → ruled x ≡ rule45 b
+      → m ≡ sets a 0 (replicate (7 + 10 * n + 9 * l + 2 * p) 0) → SizedLeft b a n l p (Refused x) m
   unfolding zeroed
-  bad-link {i} {k} h s e f =
-      let g : refusal i k ≡ decide (rule45 b ∷ rule6 b ∷ []) = here e (rule6 b ∷ []) in
+  bad-link x h e f =
+      let g : ruled x ≡ decide (rule45 b ∷ rule6 b ∷ []) = here e (rule6 b ∷ []) in
       record {
-        said = s ∙ refused-said (g ∙ next (roomy h) (rule45 b ∷ rule6 b ∷ [])) (n, l, p);
+        said = refused-said (g ∙ next (roomy h) (rule45 b ∷ rule6 b ∷ [])) (n, l, p);
         left = passed-kept (roomy h) a (refused-kept g (orderLaid b (zeroed a n l p) n l p) f);
       }
 
@@ -93,20 +102,13 @@ unfolding answer
 was-passed x passed e = refl
 was-passed x (refusal j v) e = cc
 
-pub was-refused : {i : ℕ} (x : Sizes) (u : Ruling) → refused i 0 ≡ answer u x → refusal i 0 ≡ u
-unfolding answer
-was-refused x passed e = cc
-was-refused x (refusal j v) e = cc
-
 module _ (b a : List ℕ) where
   -- 1 or 2
-  pub unread : {r : Ordered} {m : List ℕ} {i : ℕ} → orderedSaid r ≡ refused i 0
-      → _≡_ {A = Answer Sizes} (refused i 0) (answer (decide (rule1 b ∷ rule2 b ∷ [])) (N b, L b, P b)) → m ≡ a → OrderLeft b a r m
+  pub unread : {m : List ℕ} (x : Refusal) → ruled x ≡ decide (rule1 b ∷ rule2 b ∷ []) → m ≡ a → OrderLeft b a (Refused x) m
   unfolding untouched unprepared
-  unread {i} s e f =
-      let d : refusal i 0 ≡ decide (rule1 b ∷ rule2 b ∷ []) = was-refused (N b, L b, P b) (decide (rule1 b ∷ rule2 b ∷ [])) e in
+  unread x d f =
       record {
-        said = s ∙ refused-said (before (rule1 b ∷ rule2 b ∷ []) (rule3 b a ∷ rule45 b ∷ rule6 b ∷ []) d) (N b, L b, P b);
+        said = refused-said (before (rule1 b ∷ rule2 b ∷ []) (rule3 b a ∷ rule45 b ∷ rule6 b ∷ []) d) (N b, L b, P b);
         left =
             refused-kept (before (rule1 b ∷ rule2 b ∷ []) (rule3 b a ∷ []) d)
             (onRefusal (decide (rule45 b ∷ rule6 b ∷ [])) (cleared b a) (orderLaid b (cleared b a) (N b) (L b) (P b))) f;
@@ -146,19 +148,21 @@ passes b e = was-passed (N b, L b, P b) (decide (rule1 b ∷ rule2 b ∷ [])) e
 
 -- ---- each answer's meaning tells its cases apart
 
-meant : Answer Sizes → Ordered
-meant (answered (n, l, p)) = Done n l p
-meant (refused i v) = getD (NoRoom ∷ Malformed ∷ TooLarge ∷ NoRoom ∷ Missing v ∷ Second v ∷ Cycle v ∷ []) i NoRoom
+meant-order : Answer Sizes → Ordered
+meant-order (answered (n, l, p)) = Done n l p
+meant-order (refused i v) = Refused (meant (refusal i v))
 
-meant-said : (r : Ordered) → meant (orderedSaid r) ≡ r
-unfolding meant
-meant-said Malformed = refl
-meant-said TooLarge = refl
-meant-said NoRoom = refl
-meant-said (Missing k) = refl
-meant-said (Second k) = refl
-meant-said (Cycle v) = refl
-meant-said (Done n l p) = refl
+order-back : (r : Ordered) → meant-order (orderedSaid r) ≡ r
+unfolding meant-order
+order-back (Done n l p) = refl
+order-back (Refused x) = ap (λ (y : Refusal). Refused y) (meant-back x)
 
 pub orderedSaid-injective : (r s : Ordered) → orderedSaid r ≡ orderedSaid s → r ≡ s
-orderedSaid-injective r s e = sym (meant-said r) ∙ ap meant e ∙ meant-said s
+orderedSaid-injective r s e = sym (order-back r) ∙ ap meant-order e ∙ order-back s
+
+-- what is not taken apart is a refusal
+
+pub is-refusal : (o : Ordered) → OneOf (1 ∷ []) (tagOf the-type o) → ruling (orderedSaid o) ≢ passed
+unfolding ruling
+is-refusal (Done n l p) h e = miss (1 ∷ []) 0 tt h
+is-refusal (Refused x) h e = no-refusal (sym e)

@@ -8,14 +8,15 @@ use lib.Seq.{sets}
 use Rattle.lists.specs.Lists.{upto}
 use Rattle.paper.specs.Map.{N, L, P, firstPort, linkTo, sourcePort}
 use Rattle.paper.specs.Order.{queueAfter}
-use Rattle.paper.specs.Refusals.{passed, rule3, rule45, rule6, decide, Answer, answer, refused, answered, onRefusal}
+use Rattle.paper.specs.Refusals.{passed, rule3, rule45, rule6, decide, Answer, answer, answered, onRefusal}
+use Rattle.refusals.specs.Said.{refusedBy}
 use Rattle.paper.specs.Calls.{untouched, unprepared}
 use Rattle.paper.specs.Area.{cleared}
 use Rattle.stepmap.specs.Formed.{ReadWell}
 use Rattle.links_by_port.specs.Tabled.{byPort}
 use Rattle.toposort.specs.Standing.{laid}
 use Rattle.toposort.specs.declared.ordering.Ordered.{Ordered}
-use Rattle.toposort.specs.declared.ordering.Ordered.the-variants.{Malformed, TooLarge, NoRoom, Missing, Second, Cycle, Done}
+use Rattle.toposort.specs.declared.ordering.Ordered.the-variants.{Done, Refused}
 
 -- where the scratch of a map of n nodes and l links starts, and in it the first ports, the keys, the starts of the ports' links, the
 -- links by port, and the counters
@@ -57,13 +58,8 @@ zeroed a n l p = sets a 0 (replicate (7 + 10 * n + 9 * l + 2 * p) 0)
 
 -- 01's number and values for each case
 abbrev pub orderedSaid : Ordered → Answer (ℕ × ℕ × ℕ)
-orderedSaid Malformed = refused 1 0
-orderedSaid TooLarge = refused 2 0
-orderedSaid NoRoom = refused 3 0
-orderedSaid (Missing k) = refused 4 k
-orderedSaid (Second k) = refused 5 k
-orderedSaid (Cycle v) = refused 6 v
 orderedSaid (Done n l p) = answered (n, l, p)
+orderedSaid (Refused x) = refusedBy x
 
 -- what is left of a map that passes 1 and 2: the answer, and the area's words
 pub record SizedLeft (b a : List ℕ) (n l p : ℕ) (r : Ordered) (m : List ℕ) : Type 0 where

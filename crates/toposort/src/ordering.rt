@@ -1,22 +1,28 @@
 // The order of any map's nodes in any area: refusals 1 to 6 in their order, with the scratch laid out for the sort and the queue.
 ghost use mathlib.Core.Path.{_≡_};
+ghost use mathlib.Core.Logic.{_≢_};
 ghost use mathlib.Core.List.{map};
 ghost use Prim.Native.Nat.{_+_, _≤_};
 ghost use lib.ListN.{length};
 ghost use lib.Seq.{sets};
 ghost use Rattle.lists.specs.Lists.{upto};
 ghost use Rattle.paper.specs.Map.{firstPort};
-ghost use Rattle.paper.specs.Refusals.{answer, onRefusal, rule6};
+ghost use Rattle.paper.specs.Refusals.{answer, onRefusal, passed, rule6};
+ghost use Rattle.refusals.specs.Said.{ruled, ruling};
 ghost use Rattle.stepmap.specs.Formed.{Numbered, ReadWell};
 ghost use Rattle.toposort.specs.Laid.{OrderLeft, Ready, SizedLeft, orderLaid, orderedSaid, zeroed};
 ghost use Rattle.toposort.specs.Queue.{orderSaid};
 use super::queue::Order;
 use super::toposort;
 use links_by_port::links_by_output;
+use refusals::Refusal;
+use refusals::never;
 use stepmap::links::Links;
 use stepmap::links::check_links;
+use stepmap::links::link_refusal;
 use stepmap::ports::first_ports;
 use stepmap::read::StepMap;
+use stepmap::read::map_refusal;
 use stepmap::read::read_map;
 use words::section::fill;
 
@@ -45,19 +51,25 @@ pub fn order_nodes(b: &[u8], n: usize, l: usize, p: usize, area: &mut [u16]) -> 
     toposort(b, n, l, p, area, 1, firsts, keys, starts, sorted, counts)
 }
 
-// What ordering any map in any area comes to: refusals 1 to 6, or the map's sizes.
+// What ordering any map in any area comes to: the map's sizes, or refusals 1 to 6.
 pub enum Ordered {
-    Malformed,
-    TooLarge,
-    NoRoom,
-    Missing(usize),
-    Second(usize),
-    Cycle(usize),
     Done {
         nodes: usize,
         links: usize,
         ports: usize,
     },
+    Refused(Refusal),
+}
+
+// An ordering's refusal; `Done`, which the caller has taken apart, is none.
+pub fn refusal(ordered: Ordered) -> Refusal
+    requires { ⌜ ruling (orderedSaid ordered) ≢ passed ⌝ }
+    ensures { λ r. ⌜ ruled r ≡ ruling (orderedSaid ordered) ⌝ }
+{
+    let Ordered::Refused(x) = ordered else {
+        return never();
+    };
+    x
 }
 
 // Orders a map that passes 1 to 5; after 6 the words are 0 again.
@@ -67,17 +79,15 @@ fn order_sound(b: &[u8], n: usize, l: usize, p: usize, area: &mut [u16]) -> Orde
         × (now (area .exit) ≡ onRefusal (rule6 (now (b .entry))) (zeroed (now (area .entry)) n l p) (orderLaid (now (b .entry)) (now (area .entry)) n l p)) ⌝ }
 {
     let found = order_nodes(b, n, l, p, area);
-    match found {
-        Order::All => Ordered::Done {
+    let Order::Cycle(v) = found else {
+        return Ordered::Done {
             nodes: n,
             links: l,
             ports: p,
-        },
-        Order::Cycle(v) => {
-            fill(area, 0, 7 + 10 * n + 9 * l + 2 * p, 0);
-            Ordered::Cycle(v)
-        }
-    }
+        };
+    };
+    fill(area, 0, 7 + 10 * n + 9 * l + 2 * p, 0);
+    Ordered::Refused(Refusal::Cycle(v))
 }
 
 // Orders a map that passes 1 and 2: refusal 3 leaves the area as it was, and all others leave the words of the map at 0.
@@ -87,15 +97,14 @@ fn order_sized(b: &[u8], n: usize, l: usize, p: usize, area: &mut [u16]) -> Orde
 {
     let words = 7 + 10 * n + 9 * l + 2 * p;
     if area.len() < words {
-        return Ordered::NoRoom;
+        return Ordered::Refused(Refusal::NoRoom);
     }
     fill(area, 0, words, 0);
     let found = check_links(b, n, l);
-    match found {
-        Links::Missing(k) => Ordered::Missing(k),
-        Links::Second(k) => Ordered::Second(k),
-        Links::Sound => order_sound(b, n, l, p, area),
-    }
+    let Links::Sound = found else {
+        return Ordered::Refused(link_refusal(found));
+    };
+    order_sound(b, n, l, p, area)
 }
 
 // Orders any map in any area: refusals 1 to 6 in their order, or the order laid into the area.
@@ -103,13 +112,13 @@ pub fn order_map(b: &[u8], area: &mut [u16]) -> Ordered
     ensures { λ r. ⌜ OrderLeft (now (b .entry)) (now (area .entry)) r (now (area .exit)) ⌝ }
 {
     let map = read_map(b);
-    match map {
-        StepMap::Malformed => Ordered::Malformed,
-        StepMap::TooLarge => Ordered::TooLarge,
-        StepMap::Sized {
-            nodes,
-            links,
-            ports,
-        } => order_sized(b, nodes, links, ports, area),
-    }
+    let StepMap::Sized {
+        nodes,
+        links,
+        ports,
+    } = map
+    else {
+        return Ordered::Refused(map_refusal(map));
+    };
+    order_sized(b, nodes, links, ports, area)
 }

@@ -1,9 +1,10 @@
 -- `opening::open` meets its contract: refusal 1 or 2, else what `open_sized` leaves.
--- Rests on Opening and stepmap's Answers.
+-- Rests on Opening, stepmap's Answers and refusals' Rulings.
 use borrow.Author.Needs.{needs}
 use mathlib.Core.Path.{refl, sym, ap, _∙_}
+use Rattle.refusals.proofs.Rulings.{ruled-by}
 use Rattle.stepmap.specs.Said.{mapSaid}
-use Rattle.stepmap.proofs.Answers.{read-well}
+use Rattle.stepmap.proofs.Answers.{map-refused, read-well}
 use Rattle.toposort.proofs.Sizing.{passes}
 use Rattle.opening.proofs.Opening.{unread, sized-left}
 use Rattle.opening.proofs.open.Statement.{statement}
@@ -12,29 +13,28 @@ use Rattle.opening.proofs.open.Tie as tie
 read-map-requires : tie.Need-read-map-requires
 read-map-requires c κs = search needs
 
+enum-known-read : tie.Need-enum-known-read
+enum-known-read c = search needs
+
 enum-told : tie.Need-enum-told
 enum-told c = search needs
 
-enum-told-2 : tie.Need-enum-told-2
-enum-told-2 c = search needs
+map-refusal-requires : tie.Need-map-refusal-requires
+map-refusal-requires c κs = map-refused (c .before .before .read-map .result) (c .before .match .keys2)
 
-enum-known-read : tie.Need-enum-known-read
-enum-known-read c = search needs
+returns : tie.Need-returns
+returns c =
+    let read = c .before .before .before .read-map in
+    unread _ _ (c .map-refusal .result) (ruled-by (mapSaid (read .result)) (c .map-refusal .ensures) _ _ (read .ensures)) refl
 
 open-sized-requires : tie.Need-open-sized-requires
 open-sized-requires c κs = read-well _ _ _ _ (ap mapSaid (sym (c .before .before .read .given .1)) ∙ c .before .before .before .before .read-map .ensures)
 
-returns : tie.Need-returns
-returns c = unread _ _ (ap mapSaid (sym (c .enum-told .given .1)) ∙ c .before .before .read-map .ensures) refl refl
-
-returns-2 : tie.Need-returns-2
-returns-2 c = unread _ _ (ap mapSaid (sym (c .enum-told2 .given .1)) ∙ c .before .before .read-map .ensures) refl refl
-
 same-length : tie.Need-same-length
 same-length c = search needs
 
-returns-3 : tie.Need-returns-3
-returns-3 c =
+returns-2 : tie.Need-returns-2
+returns-2 c =
     let opened = c .before .before in
     let read = opened .before .before .before in
     let said = ap mapSaid (sym (read .read .given .1)) ∙ read .before .before .read-map .ensures in
@@ -45,11 +45,10 @@ open-spec =
     tie.close
     (tie.spec
     read-map-requires
-    enum-told
-    enum-told-2
     enum-known-read
-    open-sized-requires
+    enum-told
+    map-refusal-requires
     returns
-    returns-2
+    open-sized-requires
     same-length
-    returns-3)
+    returns-2)

@@ -1,9 +1,10 @@
 -- `opening::open_shared` meets its contract: refusal 1 or 2, else what `open_sized_shared` says.
--- Rests on Opening and stepmap's Answers.
+-- Rests on Opening, stepmap's Answers and refusals' Rulings.
 use borrow.Author.Needs.{needs}
 use mathlib.Core.Path.{sym, ap, _∙_}
+use Rattle.refusals.proofs.Rulings.{ruled-by}
 use Rattle.stepmap.specs.Said.{mapSaid}
-use Rattle.stepmap.proofs.Answers.{read-well}
+use Rattle.stepmap.proofs.Answers.{map-refused, read-well}
 use Rattle.toposort.proofs.Sizing.{passes}
 use Rattle.opening.proofs.Opening.{unread-said, sized-said}
 use Rattle.opening.proofs.open_shared.Statement.{statement}
@@ -12,26 +13,25 @@ use Rattle.opening.proofs.open_shared.Tie as tie
 read-map-requires : tie.Need-read-map-requires
 read-map-requires c κs = search needs
 
+enum-known-read : tie.Need-enum-known-read
+enum-known-read c = search needs
+
 enum-told : tie.Need-enum-told
 enum-told c = search needs
 
-enum-told-2 : tie.Need-enum-told-2
-enum-told-2 c = search needs
+map-refusal-requires : tie.Need-map-refusal-requires
+map-refusal-requires c κs = map-refused (c .before .before .read-map .result) (c .before .match .keys2)
 
-enum-known-read : tie.Need-enum-known-read
-enum-known-read c = search needs
+returns : tie.Need-returns
+returns c =
+    let read = c .before .before .before .read-map in
+    unread-said _ _ (c .map-refusal .result) (ruled-by (mapSaid (read .result)) (c .map-refusal .ensures) _ _ (read .ensures))
 
 open-sized-shared-requires : tie.Need-open-sized-shared-requires
 open-sized-shared-requires c κs = read-well _ _ _ _ (ap mapSaid (sym (c .before .read .given .1)) ∙ c .before .before .before .read-map .ensures)
 
-returns : tie.Need-returns
-returns c = unread-said _ _ (ap mapSaid (sym (c .enum-told .given .1)) ∙ c .before .before .read-map .ensures)
-
 returns-2 : tie.Need-returns-2
-returns-2 c = unread-said _ _ (ap mapSaid (sym (c .enum-told2 .given .1)) ∙ c .before .before .read-map .ensures)
-
-returns-3 : tie.Need-returns-3
-returns-3 c =
+returns-2 c =
     let read = c .before .before in
     let said = ap mapSaid (sym (read .read .given .1)) ∙ read .before .before .read-map .ensures in
     sized-said _ _ (read-well _ _ _ _ said) (passes _ said) (c .open-sized-shared .ensures)
@@ -41,10 +41,9 @@ open-shared-spec =
     tie.close
     (tie.spec
     read-map-requires
-    enum-told
-    enum-told-2
     enum-known-read
-    open-sized-shared-requires
+    enum-told
+    map-refusal-requires
     returns
-    returns-2
-    returns-3)
+    open-sized-shared-requires
+    returns-2)

@@ -1,8 +1,9 @@
 -- `opening::test_tables` meets its contract: 4 or 5 at a bad link, then 7 as the acceptance test says.
--- Rests on Opening.
+-- Rests on Opening and stepmap's Answers.
 use borrow.Author.Needs.{needs}
 use mathlib.Core.Path.{sym, ap, _∙_}
 use Rattle.stepmap.specs.Said.{linksSaid}
+use Rattle.stepmap.proofs.Answers.{links-refused}
 use Rattle.opening.proofs.Opening.{bad-link, testable, not-accepted, is-accepted}
 use Rattle.opening.proofs.test_tables.Statement.{statement}
 use Rattle.opening.proofs.test_tables.Tie as tie
@@ -10,33 +11,30 @@ use Rattle.opening.proofs.test_tables.Tie as tie
 check-links-requires : tie.Need-check-links-requires
 check-links-requires c κs = search needs
 
-enum-known-found : tie.Need-enum-known-found
-enum-known-found c = search needs
-
-returns : tie.Need-returns
-returns c = bad-link _ _ _ (ap linksSaid (sym (c .before .found .given .1)) ∙ c .before .before .before .check-links .ensures)
-
-enum-known-found-2 : tie.Need-enum-known-found-2
-enum-known-found-2 c = search needs
-
-returns-2 : tie.Need-returns-2
-returns-2 c = bad-link _ _ _ (ap linksSaid (sym (c .before .found2 .given .1)) ∙ c .before .before .before .check-links .ensures)
-
 enum-told : tie.Need-enum-told
 enum-told c = search needs
+
+enum-told-2 : tie.Need-enum-told-2
+enum-told-2 c = search needs
+
+link-refusal-requires : tie.Need-link-refusal-requires
+link-refusal-requires c κs = links-refused (c .before .before .check-links .result) (c .before .match .keys2)
+
+returns : tie.Need-returns
+returns c = bad-link _ _ _ (c .link-refusal .result) (c .link-refusal .ensures ∙ c .before .before .before .check-links .ensures)
 
 accepted-requires : tie.Need-accepted-requires
 accepted-requires c κs =
     let checked = c .before .before in
     testable (checked .before .before .before .pre) (ap linksSaid (sym (c .enum-told .given .1)) ∙ checked .check-links .ensures)
 
-returns-3 : tie.Need-returns-3
-returns-3 c =
+returns-2 : tie.Need-returns-2
+returns-2 c =
     let matched = c .before .before in
     not-accepted _ _ _ (ap linksSaid (sym (matched .enum-told .given .1)) ∙ matched .before .before .check-links .ensures) (c .before .accepted .ensures) (c .if1 .taken)
 
-returns-4 : tie.Need-returns-4
-returns-4 c =
+returns-3 : tie.Need-returns-3
+returns-3 c =
     let matched = c .before .before in
     is-accepted _ _ _ (ap linksSaid (sym (matched .enum-told .given .1)) ∙ matched .before .before .check-links .ensures) (c .before .accepted .ensures) (c .if1 .left)
 
@@ -45,11 +43,10 @@ test-tables-spec =
     tie.close
     (tie.spec
     check-links-requires
-    enum-known-found
-    returns
-    enum-known-found-2
-    returns-2
     enum-told
+    enum-told-2
+    link-refusal-requires
+    returns
     accepted-requires
-    returns-3
-    returns-4)
+    returns-2
+    returns-3)

@@ -12,6 +12,9 @@ open-shared-requires c κs = search needs
 enum-known-opened : tie.Need-enum-known-opened
 enum-known-opened c = search needs
 
+enum-told : tie.Need-enum-told
+enum-told c = search needs
+
 sub-result : tie.Need-sub-result
 sub-result c = search needs
 
@@ -23,11 +26,11 @@ part-result-end c = search needs
 
 returns : tie.Need-returns
 returns c =
-    let opened = c .before .before in
+    let opened = c .before .before .before in
     let start = opened .before .before .before in
     let said = opened .open-shared .ensures in
     view-refused (start .args .map .now) (start .args .area .now) (opened .open-shared .result) said _
-    (is-refusal (opened .open-shared .result) (c .before .match .keys2))
+    (is-refusal (opened .open-shared .result) (c .before .before .match .keys2))
 
 sub-result-2 : tie.Need-sub-result-2
 sub-result-2 c = search needs
@@ -69,6 +72,7 @@ view-lines-at-port-spec =
     (tie.spec
     open-shared-requires
     enum-known-opened
+    enum-told
     sub-result
     part-result-start
     part-result-end

@@ -1,7 +1,8 @@
 -- `convex::prepare::prepare` meets its contract: the ordering's refusal passed up, or the lines laid from the order.
--- Rests on Preparing.
+-- Rests on Preparing and toposort's Sizing.
 use borrow.Author.Needs.{needs}
-use Rattle.convex.proofs.Preparing.{is-refusal, refused-up, lines-ready, lines-laid}
+use Rattle.toposort.proofs.Sizing.{is-refusal}
+use Rattle.convex.proofs.Preparing.{refused-up, lines-ready, lines-laid}
 use Rattle.convex.proofs.prepare.prepare.Statement.{statement}
 use Rattle.convex.proofs.prepare.prepare.Tie as tie
 
@@ -11,15 +12,20 @@ order-map-requires c κs = search needs
 enum-known-ordered : tie.Need-enum-known-ordered
 enum-known-ordered c = search needs
 
+enum-told : tie.Need-enum-told
+enum-told c = search needs
+
 refusal-requires : tie.Need-refusal-requires
-refusal-requires c κs = search needs
+refusal-requires c κs =
+    let matched = c .before in
+    is-refusal (matched .before .before .before .order-map .result) (matched .match .keys2)
 
 same-length : tie.Need-same-length
 same-length c = search needs
 
 returns : tie.Need-returns
 returns c =
-    let matched = c .before in
+    let matched = c .before .before in
     let ordered = matched .before .before .before .order-map in
     refused-up (ordered .ensures) (c .refusal .result) (is-refusal (ordered .result) (matched .match .keys2)) (c .refusal .ensures)
 
@@ -43,6 +49,7 @@ prepare-spec =
     (tie.spec
     order-map-requires
     enum-known-ordered
+    enum-told
     refusal-requires
     same-length
     returns

@@ -1,13 +1,12 @@
-use Rattle.stepmap.proofs.LinkPass.{Passed, firsts-from, pass-starts, link-ready, pass-on, faulty-link, all-sound, other-tag}
 -- `stepmap::links::check_links` meets its contract: the links passed have no fault and their inputs' marks are set; the first fault decides.
 -- Rests on LinkPass.
 use Prim.Native.Nat.{_-_}
 use native.Mathlib.Omega.{arith}
-use mathlib.Core.Path.{refl, sym}
-use denote.Enum.Declared.{tagOf}
+use mathlib.Core.Path.{sym}
 use borrow.Author.Needs.{needs}
 use Rattle.stepmap.proofs.Known.{numbered}
-use Rattle.stepmap.proofs.links.Links.{the-type}
+use Rattle.stepmap.proofs.Answers.{links-refused}
+use Rattle.stepmap.proofs.LinkPass.{Passed, firsts-from, pass-starts, link-ready, pass-on, faulty-link, all-sound}
 use Rattle.stepmap.proofs.links.check_links.Statement.{statement}
 use Rattle.stepmap.proofs.links.check_links.Tie as tie
 
@@ -50,14 +49,17 @@ check-link-requires c κs =
 enum-told : tie.Need-enum-told Inv-loop μ-loop
 enum-told c = search needs
 
+enum-told-2 : tie.Need-enum-told-2 Inv-loop μ-loop
+enum-told-2 c = search needs
+
 returns : tie.Need-returns Inv-loop μ-loop
 returns c =
-    let made = c .before .before .before .before .before .before .before .before .before .before .before .node-room in
-    let well = c .before .before .before .before .before .before .before .before .before .before .before .before .before .pre in
-    let stand = firsts-from _ (made .result) _ (c .before .before .before .before .before .before .before .before .before .first-ports .ensures) (made .ensures) (well .few-nodes) in
-    let one = c .before .before .check-link in
-    faulty-link well (c .before .before .before .before .before .loop-test .taken) stand (c .before .before .before .before .before .before .loop .inv) (one .result) (one .ensures .0)
-    (other-tag (tagOf the-type) refl (c .match .keys2))
+    let made = c .before .before .before .before .before .before .before .before .before .before .before .before .node-room in
+    let well = c .before .before .before .before .before .before .before .before .before .before .before .before .before .before .pre in
+    let stand = firsts-from _ (made .result) _ (c .before .before .before .before .before .before .before .before .before .before .first-ports .ensures) (made .ensures) (well .few-nodes) in
+    let one = c .before .before .before .check-link in
+    faulty-link well (c .before .before .before .before .before .before .loop-test .taken) stand (c .before .before .before .before .before .before .before .loop .inv) (one .result) (one .ensures .0)
+    (links-refused (one .result) (c .before .match .keys2))
 
 add-k : tie.Need-add-k Inv-loop μ-loop
 add-k c = omega arith
@@ -92,6 +94,7 @@ check-links-spec =
     slice-aggregate-check-link-2
     check-link-requires
     enum-told
+    enum-told-2
     returns
     add-k
     loop-less

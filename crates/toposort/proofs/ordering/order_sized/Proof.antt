@@ -1,8 +1,9 @@
 -- `toposort::ordering::order_sized` meets its contract: refusal 3, then 4 or 5, then what `order_sound` says.
--- Rests on Sizing.
+-- Rests on Sizing and stepmap's Answers.
 use borrow.Author.Needs.{needs}
 use mathlib.Core.Path.{refl, sym, ap, _∙_}
 use Rattle.stepmap.specs.Said.{linksSaid}
+use Rattle.stepmap.proofs.Answers.{links-refused}
 use Rattle.stepmap.proofs.Known.{well-at}
 use Rattle.toposort.proofs.Sizing.{no-room, bad-link, ready-zeroed, sound-links}
 use Rattle.toposort.proofs.ordering.order_sized.Statement.{statement}
@@ -35,22 +36,14 @@ fill-requires c κs = search needs
 check-links-requires : tie.Need-check-links-requires
 check-links-requires c κs = well-at (c .before .before .before .before .before .before .before .pre)
 
-enum-known-found : tie.Need-enum-known-found
-enum-known-found c = search needs
-
-enum-known-found-2 : tie.Need-enum-known-found-2
-enum-known-found-2 c = search needs
-
 enum-told : tie.Need-enum-told
 enum-told c = search needs
 
-order-sound-requires : tie.Need-order-sound-requires
-order-sound-requires c κs =
-    let checked = c .before .before .before in
-    let filled = checked .before .before .before in
-    let start = filled .before .before .before .before .before in
-    ready-zeroed (start .pre) _ (search needs) (filled .fill .ensures)
-    (ap linksSaid (sym (c .before .enum-told .given .1)) ∙ checked .check-links .ensures)
+enum-told-2 : tie.Need-enum-told-2
+enum-told-2 c = search needs
+
+link-refusal-requires : tie.Need-link-refusal-requires
+link-refusal-requires c κs = links-refused (c .before .before .check-links .result) (c .before .match .keys2)
 
 same-length : tie.Need-same-length
 same-length c = search needs
@@ -60,25 +53,21 @@ returns-2 c =
     let checked = c .before .before .before in
     let filled = checked .before .before .before in
     let start = filled .before .before .before .before .before in
-    bad-link (start .pre) _ (search needs) refl (ap linksSaid (sym (c .before .found .given .1)) ∙ checked .check-links .ensures)
-    (filled .fill .ensures)
+    bad-link (start .pre) _ (c .link-refusal .result) (search needs) (c .link-refusal .ensures ∙ checked .check-links .ensures) (filled .fill .ensures)
+
+order-sound-requires : tie.Need-order-sound-requires
+order-sound-requires c κs =
+    let checked = c .before .before .before in
+    let filled = checked .before .before .before in
+    let start = filled .before .before .before .before .before in
+    ready-zeroed (start .pre) _ (search needs) (filled .fill .ensures)
+    (ap linksSaid (sym (c .before .enum-told .given .1)) ∙ checked .check-links .ensures)
 
 same-length-2 : tie.Need-same-length-2
 same-length-2 c = search needs
 
 returns-3 : tie.Need-returns-3
 returns-3 c =
-    let checked = c .before .before .before in
-    let filled = checked .before .before .before in
-    let start = filled .before .before .before .before .before in
-    bad-link (start .pre) _ (search needs) refl (ap linksSaid (sym (c .before .found2 .given .1)) ∙ checked .check-links .ensures)
-    (filled .fill .ensures)
-
-same-length-3 : tie.Need-same-length-3
-same-length-3 c = search needs
-
-returns-4 : tie.Need-returns-4
-returns-4 c =
     let checked = c .before .before .before .before .before .before in
     let filled = checked .before .before .before in
     let start = filled .before .before .before .before .before in
@@ -99,13 +88,11 @@ order-sized-spec =
     returns
     fill-requires
     check-links-requires
-    enum-known-found
-    enum-known-found-2
     enum-told
-    order-sound-requires
+    enum-told-2
+    link-refusal-requires
     same-length
     returns-2
+    order-sound-requires
     same-length-2
-    returns-3
-    same-length-3
-    returns-4)
+    returns-3)

@@ -8,11 +8,19 @@ use Rattle.toposort.proofs.ordering.order_sound.Tie as tie
 order-nodes-requires : tie.Need-order-nodes-requires
 order-nodes-requires c κs = search needs
 
+enum-known-found : tie.Need-enum-known-found
+enum-known-found c = search needs
+
 enum-told : tie.Need-enum-told
 enum-told c = search needs
 
-enum-known-found : tie.Need-enum-known-found
-enum-known-found c = search needs
+same-length : tie.Need-same-length
+same-length c = search needs
+
+returns : tie.Need-returns
+returns c =
+    let ordered = c .before .before .before .before in
+    all-ordered (ordered .before .before .before .before .pre) (c .enum-told .given .1) (ordered .order-nodes .ensures .0) (ordered .order-nodes .ensures .1)
 
 mul-fill : tie.Need-mul-fill
 mul-fill c = search needs
@@ -35,14 +43,6 @@ add-fill-3 c = search needs
 fill-requires : tie.Need-fill-requires
 fill-requires c κs = search needs
 
-same-length : tie.Need-same-length
-same-length c = search needs
-
-returns : tie.Need-returns
-returns c =
-    let ordered = c .before .before .before .before in
-    all-ordered (ordered .before .before .before .before .pre) (c .enum-told .given .1) (ordered .order-nodes .ensures .0) (ordered .order-nodes .ensures .1)
-
 same-length-2 : tie.Need-same-length-2
 same-length-2 c = search needs
 
@@ -58,8 +58,10 @@ order-sound-spec =
     tie.close
     (tie.spec
     order-nodes-requires
-    enum-told
     enum-known-found
+    enum-told
+    same-length
+    returns
     mul-fill
     add-fill
     mul-fill-2
@@ -67,7 +69,5 @@ order-sound-spec =
     mul-fill-3
     add-fill-3
     fill-requires
-    same-length
-    returns
     same-length-2
     returns-2)
