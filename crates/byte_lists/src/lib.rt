@@ -16,10 +16,9 @@ use line_checker::line_check::LineAnswer;
 use line_checker::line_check::check_listed;
 use line_checker::list_intervals::IntervalsAnswer;
 use line_checker::list_intervals::write_intervals;
-use line_checker::refused::list_refusal;
 use line_checker::room::record_room;
-use refusals::Refusal;
 use take_in::Taken;
+use take_in::list_refusal;
 use take_in::take_in_bytes;
 use words::bytes::put_words;
 
@@ -102,11 +101,12 @@ pub fn intervals_of_list_bytes(
         (now (buffer .entry)) (now (buffer .exit))
         (wordsOf (intervals (now (b .entry)) (now (area .entry)) (wordsFrom (now (list .entry))))) ⌝ }
 {
-    let taken = take_in_bytes(list, n, area, 3 + 6 * n + 5 * l);
-    match taken {
-        Taken::Empty => IntervalsAnswer::Records(0),
-        Taken::Unknown(i) => IntervalsAnswer::Refused(Refusal::Unknown(i)),
-        Taken::Repeated(i) => IntervalsAnswer::Refused(Refusal::Repeated(i)),
-        Taken::Nodes(count) => write_intervals_bytes(b, n, l, p, area, count, buffer),
+    if list.len() / 2 == 0 {
+        return IntervalsAnswer::Records(0);
     }
+    let taken = take_in_bytes(list, n, area, 3 + 6 * n + 5 * l);
+    let Taken::Nodes(count) = taken else {
+        return IntervalsAnswer::Refused(list_refusal(taken));
+    };
+    write_intervals_bytes(b, n, l, p, area, count, buffer)
 }

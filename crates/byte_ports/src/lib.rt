@@ -38,11 +38,11 @@ pub fn check_list_with_ports_bytes(
         (lineCheck (now (b .entry)) (now (area .entry)) (wordsFrom (now (list .entry))))) ⌝ }
 {
     let checked = check_list_bytes(b, n, l, p, area, list);
-    if let LineAnswer::Refused(x) = checked {
-        return LineAnswer::Refused(x);
-    }
-    let found = check_ports_bytes(b, n, l, p, area, 3 + 6 * n + 5 * l, inputs, outputs);
-    line_after_ports(found, checked)
+    let LineAnswer::Refused(_) = checked else {
+        let found = check_ports_bytes(b, n, l, p, area, 3 + 6 * n + 5 * l, inputs, outputs);
+        return line_after_ports(found, checked);
+    };
+    checked
 }
 
 // The order check with ports: its refusal comes first, then 14; no on a conflict; else the check.
@@ -64,9 +64,9 @@ pub fn check_order_with_ports_bytes(
         (orderCheck (now (b .entry)) (now (area .entry)) (wordsFrom (now (list .entry))))) ⌝ }
 {
     let checked = check_order_bytes(b, n, l, p, area, list);
-    if let TopoAnswer::Refused(x) = checked {
-        return TopoAnswer::Refused(x);
-    }
-    let found = check_ports_bytes(b, n, l, p, area, 3 + 6 * n + 5 * l, inputs, outputs);
-    order_after_ports(found, checked)
+    let TopoAnswer::Refused(_) = checked else {
+        let found = check_ports_bytes(b, n, l, p, area, 3 + 6 * n + 5 * l, inputs, outputs);
+        return order_after_ports(found, checked);
+    };
+    checked
 }

@@ -20,8 +20,9 @@ use Rattle.paper.specs.Calls.{needed}
 use Rattle.paper.specs.Words.{wordsFrom}
 use Rattle.accepted_theory.proofs.Alike.{Alike, in-the-end, next, same-answer}
 use Rattle.records_theory.proofs.Ruled.{allowed}
+use Rattle.refusals.specs.declared.Refusal.the-variants.{BadRecord}
 use Rattle.records.specs.Tested.{Tested}
-use Rattle.records.specs.declared.Checked.the-variants.{Bad}
+use Rattle.records.specs.declared.Checked.the-variants.{Refused}
 use Rattle.records.proofs.Testing.{beyond}
 use Rattle.tables.specs.Answered.{Answered}
 use Rattle.tables.specs.Usable.{Usable}
@@ -121,9 +122,9 @@ module _ {b a : List ℕ} {n l p : ℕ} (usable : Usable b a n l p) {ws : List �
 -- ---- records beyond the buffer
 
 pub beyond-bytes : (b a : List ℕ) (n l p : ℕ) (bytes : List ℕ) {count : ℕ} → length bytes / 2 / 3 < count
-    → Tested b a n l p (wordsFrom bytes) count (Bad (length bytes / 2 / 3)) a
+    → Tested b a n l p (wordsFrom bytes) count (Refused (BadRecord (length bytes / 2 / 3))) a
 beyond-bytes b a n l p bytes {count} h =
-    subst (λ (k : ℕ). Tested b a n l p (wordsFrom bytes) count (Bad (k / 3)) a) (length-wordsFrom bytes)
+    subst (λ (k : ℕ). Tested b a n l p (wordsFrom bytes) count (Refused (BadRecord (k / 3))) a) (length-wordsFrom bytes)
     (beyond b a n l p (wordsFrom bytes) (omega (arith, length-wordsFrom bytes)))
 
 -- ---- the check of what was read

@@ -4,19 +4,22 @@
 use Prim.Native.Nat.{ℕ, _*_, _/_, _≤_, _<_}
 use native.Mathlib.Omega.{arith}
 use mathlib.Core.Path.{_≡_, refl, sym, ap, _∙_, subst}
+use mathlib.Core.Logic.{_≢_}
 use mathlib.Core.List.{List, [], _∷_, flatMap}
 use lib.ListN.{length, take}
 use lib.Seq.{sets}
 use Rattle.paper.specs.Map.{N}
 use Rattle.paper.specs.Intervals.{Records, records, intervals, touched}
 use Rattle.paper.specs.Records.{wordsOfRecords}
-use Rattle.paper.specs.Refusals.{Ruling, Answer, answered, refused, decide, refuse, earliest, rule9, rule10, rule11, wholeRecords}
+use Rattle.paper.specs.Refusals.{Ruling, passed, Answer, answered, refused, decide, refuse, earliest, rule9, rule10, rule11, wholeRecords}
 use Rattle.paper.specs.Calls.{Written, wrote, nothing, said, wordsOf, needed}
 use Rattle.records_theory.proofs.Reading.{length-words}
-use Rattle.take_in.specs.Said.{TakenIn}
+use Rattle.refusals.specs.Said.{ruled, refusedBy, ruling}
+use Rattle.refusals.specs.declared.Refusal.{Refusal}
+use Rattle.refusals.proofs.Rulings.{ruling-answer, first-decides}
+use Rattle.take_in.specs.Said.{TakenIn, takenSaid, unknownIn, listRuled}
 use Rattle.take_in.specs.declared.Taken.{Taken}
-use Rattle.take_in.specs.declared.Taken.the-variants.{Empty, Unknown, Repeated}
-use Rattle.take_in.proofs.Answers.{AllNodes, was-empty, was-unknown, was-repeated}
+use Rattle.take_in.proofs.Answers.{AllNodes}
 use Rattle.take_in.proofs.Passing.{rule9-is}
 use Rattle.intervals.specs.Answer.{Collected, intervalsSaid, listIn}
 use Rattle.intervals.specs.declared.Intervals.{Intervals}
@@ -26,7 +29,7 @@ use Rattle.tables.specs.Usable.{Usable, Scratched, scratchAt}
 use Rattle.tables.proofs.Within.{within-both}
 use Rattle.line_checker.proofs.Records.{Wrote, wrote-some, wrote-none, begun-long}
 use Rattle.line_checker.proofs.Into.{Into, into-refused, into-passed, into-answered, none-into, long-into, fit-into, short-enough}
-use Rattle.line_checker.proofs.RecordCalls.{into-after}
+use Rattle.line_checker.proofs.RecordCalls.{into-after, some-given}
 use Rattle.line_checker.proofs.LineCheck.{found-same}
 
 -- 11 of some records and a buffer
@@ -83,33 +86,29 @@ unfolding intervals touched flatMap said needed wordsOf wordsOfRecords rule9 rul
 no-nodes b a buffer =
     into-passed (rule9 b [] ∷ rule10 [] ∷ Rules buffer (records [])) (wrote 0) buffer [] (short-enough (wholeRecords buffer) 0 (omega arith)) refl
 
-module _ (b a : List ℕ) {n : ℕ} (nodes : N b ≡ n) {list entry : List ℕ} {at : ℕ} {r : Taken} {m : List ℕ} (taken : TakenIn n list entry at r m)
-    (buffer : List ℕ) where
-  pub empty-into : r ≡ Empty → Says b a list buffer (answered (wrote 0)) buffer
-  empty-into e =
-      subst (λ (xs : List ℕ). Says b a xs buffer (answered (wrote 0)) buffer)
-      (sym (eq-nil list (was-empty (subst (λ (x : Taken). TakenIn n list entry at x m) e taken)))) (no-nodes b a buffer)
+module _ (b a list buffer : List ℕ) where
+  pub empty-into : length list ≡ 0 → Says b a list buffer (answered (wrote 0)) buffer
+  empty-into e = subst (λ (xs : List ℕ). Says b a xs buffer (answered (wrote 0)) buffer) (sym (eq-nil list e)) (no-nodes b a buffer)
     where
       eq-nil : (xs : List ℕ) → length xs ≡ 0 → xs ≡ []
       eq-nil [] e = refl
       eq-nil (x ∷ xs) e = absurd (omega (arith, e))
 
-  pub unknown-into : {i : ℕ} → r ≡ Unknown i → Says b a list buffer (refused 9 i) buffer
-  unfolding decide
-  unknown-into e =
-      into-refused (rule9 b list ∷ rule10 list ∷ Rules buffer (intervals b a list)) (said (intervals b a list)) buffer (wordsOf (intervals b a list))
-      (ap (λ (u : Ruling). decide (u ∷ rule10 list ∷ Rules buffer (intervals b a list)))
-      (sym (rule9-is b list n nodes ∙ was-unknown (subst (λ (x : Taken). TakenIn n list entry at x m) e taken) .1)))
+  -- a list that is not empty and was not taken in: 9 or 10 refuses
+  module _ (some : length list ≢ 0) {n : ℕ} (nodes : N b ≡ n) {entry : List ℕ} {at : ℕ} {r : Taken} {m : List ℕ}
+      (taken : TakenIn n list entry at r m) where
+    decided : ruling (takenSaid r) ≡ decide (rule9 b list ∷ rule10 list ∷ [])
+    unfolding listRuled decide
+    decided =
+        ap ruling (taken .said) ∙ ruling-answer (listRuled n list) (length list)
+        ∙ ap (λ (u : Ruling). decide (u ∷ unknownIn n list ∷ rule10 list ∷ [])) (sym (some-given (length list) some))
+        ∙ ap (λ (u : Ruling). decide (u ∷ rule10 list ∷ [])) (sym (rule9-is b list n nodes))
 
-  pub repeated-into : {i : ℕ} → r ≡ Repeated i → Says b a list buffer (refused 10 i) buffer
-  unfolding decide
-  repeated-into e =
-      let ruled = was-repeated (subst (λ (x : Taken). TakenIn n list entry at x m) e taken) in
-      into-refused (rule9 b list ∷ rule10 list ∷ Rules buffer (intervals b a list)) (said (intervals b a list)) buffer (wordsOf (intervals b a list))
-      (sym (
-      ap (λ (u : Ruling). decide (u ∷ rule10 list ∷ Rules buffer (intervals b a list))) (rule9-is b list n nodes ∙ ruled .1)
-      ∙ ap (λ (u : Ruling). decide (u ∷ Rules buffer (intervals b a list))) (ruled .2)
-      ))
+    pub refused-into : (x : Refusal) → ruled x ≡ ruling (takenSaid r) → ruling (takenSaid r) ≢ passed → Says b a list buffer (refusedBy x) buffer
+    refused-into x e ne =
+        into-refused (rule9 b list ∷ rule10 list ∷ Rules buffer (intervals b a list)) (said (intervals b a list)) buffer (wordsOf (intervals b a list))
+        (e ∙ decided
+        ∙ sym (first-decides (rule9 b list ∷ rule10 list ∷ []) (Rules buffer (intervals b a list)) (λ f. ne (decided ∙ f))))
 
 -- what is written on the area with the list is what the question answers
 module _ {b a : List ℕ} {n l p : ℕ} (usable : Usable b a n l p) {list : List ℕ} {c : ℕ} {m : List ℕ} (nodes : AllNodes n list (scratchAt n l) c m)

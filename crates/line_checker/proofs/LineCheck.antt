@@ -6,8 +6,6 @@ use native.Mathlib.Omega.{arith}
 use mathlib.Core.Path.{_≡_, sym, ap, _∙_, subst}
 use mathlib.Core.Logic.{_≢_}
 use mathlib.Core.List.{List, [], _∷_}
-use types.Run.{OneOf, miss}
-use denote.Enum.Declared.{tagOf}
 use lib.ListN.{length, getD, take}
 use Rattle.lists.specs.Bounds.{Below}
 use Rattle.lists.specs.Lists.{Distinct}
@@ -38,8 +36,7 @@ use Rattle.refusals.proofs.Rulings.{no-refusal, ruling-answer}
 use Rattle.take_in.specs.Taking.{Known}
 use Rattle.take_in.specs.Said.{TakenIn, takenSaid, listRuled}
 use Rattle.take_in.specs.declared.Taken.{Taken}
-use Rattle.take_in.specs.declared.Taken.the-variants.{Empty, Unknown, Repeated, Nodes}
-use Rattle.take_in.proofs.Taken.{the-type}
+use Rattle.take_in.specs.declared.Taken.the-variants.{Nodes, Refused}
 use Rattle.take_in.proofs.Answers.{AllNodes, were-nodes}
 use Rattle.take_in.proofs.Passing.{rule9-is, known-below}
 use Rattle.intervals.specs.Holds.{Listed}
@@ -173,12 +170,9 @@ module _ {b a : List ℕ} {n l p : ℕ} (usable : Usable b a n l p) {list : List
 -- ---- a list that was not taken in
 
 -- 8, 9 or 10 refuses
-pub not-taken : (r : Taken) → OneOf (0 ∷ 1 ∷ 2 ∷ []) (tagOf the-type r) → ruling (takenSaid r) ≢ passed
+pub not-taken : {r : Taken} {x : Refusal} → r ≡ Refused x → ruling (takenSaid r) ≢ passed
 unfolding ruling
-not-taken Empty h e = no-refusal (sym e)
-not-taken (Unknown i) h e = no-refusal (sym e)
-not-taken (Repeated i) h e = no-refusal (sym e)
-not-taken (Nodes c) h e = miss (0 ∷ 1 ∷ 2 ∷ []) 3 tt h
+not-taken e f = no-refusal (sym f ∙ ap (λ (o : Taken). ruling (takenSaid o)) e)
 
 module _ {n : ℕ} {list a : List ℕ} {at : ℕ} {r : Taken} {m : List ℕ} (taken : TakenIn n list a at r m) where
   pub all-taken : {c : ℕ} → r ≡ Nodes c → AllNodes n list at c m

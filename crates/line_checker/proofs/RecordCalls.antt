@@ -9,8 +9,6 @@ use mathlib.Core.Bool.{Bool}
 use mathlib.Core.List.{List, [], _∷_, _++_}
 use borrow.Author.Tests.{le-leb, lt-leb, ne-eqb}
 use lib.Seq.{sets}
-use types.Run.{OneOf, miss}
-use denote.Enum.Declared.{tagOf}
 use Rattle.lists.specs.Found.{placed}
 use Rattle.paper.specs.Map.{N}
 use Rattle.paper.specs.Area.{K}
@@ -43,8 +41,7 @@ use Rattle.refusals.specs.declared.Refusal.{Refusal}
 use Rattle.refusals.proofs.Rulings.{no-refusal, head-passed, first-decides, then-decides}
 use Rattle.records.specs.Tested.{Tested, checkedSaid}
 use Rattle.records.specs.declared.Checked.{Checked}
-use Rattle.records.specs.declared.Checked.the-variants.{Good, Bad, Straddling}
-use Rattle.records.proofs.Checked.{the-type}
+use Rattle.records.specs.declared.Checked.the-variants.{Refused}
 use Rattle.tables.specs.Recorded.{Recorded, Slotted}
 use Rattle.tables.specs.Usable.{Usable, scratchAt}
 use Rattle.tables.specs.Answered.{Answered}
@@ -118,10 +115,8 @@ module _ {b a : List ℕ} {n l p : ℕ} (usable : Usable b a n l p) {words : Lis
         subst (Slotted m words count (scratchAt n l) (scratchAt n l + (n + l))) (tables-still usable (tested .kept) .count) (tested .slotted good)
 
 -- records that are not good are refused
-pub is-bad : (r : Checked) → OneOf (1 ∷ 2 ∷ []) (tagOf the-type r) → checkedSaid r ≢ passed
-is-bad Good h e = miss (1 ∷ 2 ∷ []) 0 tt h
-is-bad (Bad i) h e = no-refusal (sym e)
-is-bad (Straddling v) h e = no-refusal (sym e)
+pub is-bad : {r : Checked} {x : Refusal} → r ≡ Refused x → checkedSaid r ≢ passed
+is-bad e f = no-refusal (sym f ∙ ap checkedSaid e)
 
 -- ---- the check by records
 

@@ -10,13 +10,13 @@ ghost use Rattle.tables.specs.Recorded.{Recorded, Slotted};
 ghost use Rattle.tables.specs.Usable.{Usable, scratchAt};
 ghost use Rattle.tables.specs.Answered.{AnsweredInto};
 ghost use Rattle.line_checker.specs.Said.{extendSaid};
-use super::refused::record_refusal;
 use super::room::copy_out;
 use super::room::record_room;
 use extension::Extended;
 use extension::extend;
 use records::Checked;
 use records::check_records;
+use records::record_refusal;
 use refusals::Refusal;
 
 // What extending answers: how many records there are now, that they cannot be extended, or a refusal.

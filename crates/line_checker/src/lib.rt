@@ -3,5 +3,4 @@ pub mod extend;
 pub mod line_check;
 pub mod list_intervals;
 pub mod nodes;
-pub mod refused;
 pub mod room;

@@ -15,6 +15,7 @@ use intervals::Intervals;
 use intervals::get_intervals;
 use refusals::Refusal;
 use take_in::Taken;
+use take_in::list_refusal;
 use take_in::take_in;
 
 // What intervals answer: how many records were written, that the list is not contiguous, or a refusal.
@@ -73,11 +74,12 @@ pub fn intervals_of_list(
         (now (buffer .entry)) (now (buffer .exit))
         (wordsOf (intervals (now (b .entry)) (now (area .entry)) (now (list .entry)))) ⌝ }
 {
-    let taken = take_in(list, n, area, 3 + 6 * n + 5 * l);
-    match taken {
-        Taken::Empty => IntervalsAnswer::Records(0),
-        Taken::Unknown(i) => IntervalsAnswer::Refused(Refusal::Unknown(i)),
-        Taken::Repeated(i) => IntervalsAnswer::Refused(Refusal::Repeated(i)),
-        Taken::Nodes(count) => write_intervals(b, n, l, p, area, count, buffer),
+    if list.len() == 0 {
+        return IntervalsAnswer::Records(0);
     }
+    let taken = take_in(list, n, area, 3 + 6 * n + 5 * l);
+    let Taken::Nodes(count) = taken else {
+        return IntervalsAnswer::Refused(list_refusal(taken));
+    };
+    write_intervals(b, n, l, p, area, count, buffer)
 }

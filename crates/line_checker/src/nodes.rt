@@ -1,7 +1,7 @@
 // Translated from src/algorithms/convex/line_convex_checker.rs of portgraph (88172a3c8e, Apache-2.0, see NOTICE), and changed:
 // `nodes_in_intervals` refuses what 01 refuses, and writes the nodes to a lent buffer.
 ghost use mathlib.Core.List.{[], _∷_};
-ghost use Prim.Native.Nat.{_+_, _*_};
+ghost use Prim.Native.Nat.{_+_};
 ghost use lib.ListN.{length};
 ghost use Rattle.paper.specs.Area.{K};
 ghost use Rattle.paper.specs.Records.{nodesIn, recordsIn};
@@ -10,12 +10,12 @@ ghost use Rattle.tables.specs.Recorded.{Recorded, Slotted};
 ghost use Rattle.tables.specs.Usable.{Usable, scratchAt};
 ghost use Rattle.tables.specs.Answered.{AnsweredInto};
 ghost use Rattle.line_checker.specs.Said.{nodesSaid};
-use super::refused::record_refusal;
 use super::room::copy_out;
 use super::room::node_room;
 use nodes_in::nodes_in;
 use records::Checked;
 use records::check_records;
+use records::record_refusal;
 use refusals::Refusal;
 
 // What nodes in records answer: how many were written, or a refusal.

@@ -19,6 +19,7 @@ use Rattle.paper.specs.Refusals.{usedBefore, badRecord}
 use Rattle.accepted_theory.specs.SameTables.{SameTables}
 use Rattle.accepted_theory.proofs.Records.{badRecord-same}
 use Rattle.accepted_theory.proofs.Refusals.{not-passed}
+use Rattle.refusals.specs.declared.Refusal.the-variants.{BadRecord}
 use Rattle.tables.specs.Usable.{Usable, Scratched}
 use Rattle.tables.specs.Recorded.{Unmarked, Marked, Slotted}
 use Rattle.tables.proofs.Within.{within-none, within-both, within-set, within-sets}
@@ -26,7 +27,7 @@ use Rattle.tables.proofs.Words.{count-few}
 use Rattle.tables.proofs.Usable.{tables-still, still-usable}
 use Rattle.records.specs.Slots.{slotsAt, marksAt}
 use Rattle.records.specs.Tested.{Passed, RecordTested, AllTested}
-use Rattle.records.specs.declared.Checked.the-variants.{Good, Bad}
+use Rattle.records.specs.declared.Checked.the-variants.{Good, Refused}
 use Rattle.records.proofs.Reasons.{used, unused, is-good, few-records}
 use Rattle.records.proofs.Refusing.{first-bad, none-bad}
 
@@ -172,7 +173,7 @@ module _ {b a : List ℕ} {n l p : ℕ} (usable : Usable b a n l p) where
     fine : (j : ℕ) → j < i → badRecord b a words j ≡ false
     fine j h = badRecord-same (tables-still usable kept) words j ∙ before .good j h
 
-    pub bad-found : {count : ℕ} → i < count → {r : Bool} {m : List ℕ} → RecordTested b c n l p words i r m → not r ≡ true → AllTested b a n l p words count (Bad i) m
+    pub bad-found : {count : ℕ} → i < count → {r : Bool} {m : List ℕ} → RecordTested b c n l p words i r m → not r ≡ true → AllTested b a n l p words count (Refused (BadRecord i)) m
     bad-found {count} h {r} tested e =
         record {
           said = first-bad 12 (badRecord b a words) count fine h refl

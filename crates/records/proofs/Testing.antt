@@ -1,13 +1,11 @@
 -- The test of given records put together: a count beyond the buffer, 12 at a bad record, then what 13 says.
--- Rests on Meaning, Slotting and accepted_theory (the words in use alone decide).
+-- Rests on Meaning, Slotting, refusals' Answers and accepted_theory (the words in use alone decide).
 use Prim.Native.Nat.{ℕ, _*_, _/_, _≤_, _<_}
 use native.Mathlib.Omega.{arith}
 use borrow.Author.Tests.{lt-ltb, le-ltb}
 use mathlib.Core.Path.{_≡_, refl, sym, ap, _∙_, subst}
-use mathlib.Core.Logic.{_⊎_, inl, inr}
 use mathlib.Core.Bool.{Bool, cond}
 use mathlib.Core.List.{List, [], _∷_}
-use lib.Dec.{eqb}
 use lib.ListN.{length}
 use Rattle.lists.specs.Found.{first}
 use Rattle.paper.specs.Area.{K}
@@ -16,6 +14,9 @@ use Rattle.paper.specs.Refusals.{Ruling, passed, refusal, refuse, badRecord, wh
 use Rattle.accepted_theory.specs.SameTables.{SameTables}
 use Rattle.accepted_theory.proofs.Records.{badRecord-same, rule13-same}
 use Rattle.accepted_theory.proofs.Refusals.{not-passed}
+use Rattle.refusals.specs.declared.Refusal.{Refusal}
+use Rattle.refusals.specs.declared.Refusal.the-variants.{BadRecord}
+use Rattle.refusals.proofs.Answers.{ruled-injective}
 use Rattle.tables.specs.Usable.{Usable}
 use Rattle.tables.specs.Recorded.{Recorded, Slotted}
 use Rattle.tables.proofs.Within.{within-none}
@@ -23,7 +24,7 @@ use Rattle.tables.proofs.Usable.{tables-still, still-usable}
 use Rattle.records.specs.Slots.{slotsAt, marksAt, NodeAt, straddlesHere}
 use Rattle.records.specs.Tested.{Passed, AllTested, Tested, checkedSaid}
 use Rattle.records.specs.declared.Checked.{Checked}
-use Rattle.records.specs.declared.Checked.the-variants.{Good, Bad, Straddling}
+use Rattle.records.specs.declared.Checked.the-variants.{Good, Refused}
 use Rattle.records.proofs.Meaning.{node-at, rule13-is}
 
 -- the first of two rulings
@@ -40,7 +41,7 @@ passed-first e w = alone w ∙ ap (λ (u : Ruling). decide (u ∷ (w ∷ []))) e
     alone (refusal n v) = refl
 
 -- "A record count beyond the buffer gives 12 with the number of whole records as place, before any record is read"
-pub beyond : (b a : List ℕ) (n l p : ℕ) (words : List ℕ) {count : ℕ} → length words / 3 < count → Tested b a n l p words count (Bad (length words / 3)) a
+pub beyond : (b a : List ℕ) (n l p : ℕ) (words : List ℕ) {count : ℕ} → length words / 3 < count → Tested b a n l p words count (Refused (BadRecord (length words / 3))) a
 unfolding rule12 wholeRecords
 beyond b a n l p words {count} h =
     record {
@@ -60,25 +61,17 @@ module _ {b a : List ℕ} {n l p : ℕ} (usable : Usable b a n l p) {words : Lis
       tested .said
       ∙ ap (λ (t : Bool). cond t (refusal 12 (length words / 3)) (refuse 12 (first (badRecord b a words) count))) (sym (le-ltb (length words / 3) count fits))
 
-  pub bad-record : (found ≡ Good → ⊥) → Tested b a n l p words count found m
-  bad-record ne =
+  pub bad-record : {x : Refusal} → found ≡ Refused x → Tested b a n l p words count found m
+  bad-record {x} e =
       record {
-        said = go found ne by-12;
-        slotted = λ e. absurd (refused found ne e);
-        recorded = λ e. absurd (refused found ne e);
+        said = ap checkedSaid e ∙ refused-first (ap checkedSaid (sym e) ∙ by-12) (rule13 b a (recordsIn words count));
+        slotted = λ f. absurd (refuses f);
+        recorded = λ f. absurd (refuses f);
         kept = tested .kept;
       }
     where
-      go : (r : Checked) → (r ≡ Good → ⊥) → checkedSaid r ≡ rule12 b a words count
-          → checkedSaid r ≡ decide (rule12 b a words count ∷ (rule13 b a (recordsIn words count) ∷ []))
-      go Good ne e = absurd (ne refl)
-      go (Bad i) ne e = refused-first e (rule13 b a (recordsIn words count))
-      go (Straddling v) ne e = refused-first e (rule13 b a (recordsIn words count))
-
-      refused : (r : Checked) → (r ≡ Good → ⊥) → checkedSaid r ≡ passed → ⊥
-      refused Good ne e = ne refl
-      refused (Bad i) ne e = not-passed e
-      refused (Straddling v) ne e = not-passed e
+      refuses : checkedSaid found ≡ passed → ⊥
+      refuses f = not-passed (ap checkedSaid (sym e) ∙ f)
 
   module _ (good : found ≡ Good) where
     before : Passed b m n l words count
@@ -118,22 +111,10 @@ module _ {b a : List ℕ} {n l p : ℕ} (usable : Usable b a n l p) {words : Lis
   slotted-after =
       subst (Slotted m words count (slotsAt n l) (marksAt n l)) (tables-still usable (tested .kept) .count) (tested .slotted good)
 
--- an enum's tag that is not that of `Good`
-pub other-tag : (tag : Checked → ℕ) → tag Good ≡ 0 → {found : Checked} → (tag found ≡ 1) ⊎ (tag found ≡ 2) → found ≡ Good → ⊥
-other-tag tag good (inl h) e = omega (arith, ap tag e)
-other-tag tag good (inr h) e = omega (arith, ap tag e)
-
 -- ---- the answer's meaning tells its cases apart
 
-meant : Ruling → Checked
-meant passed = Good
-meant (refusal i v) = cond (eqb i 12) (Bad v) (Straddling v)
-
-meant-said : (r : Checked) → meant (checkedSaid r) ≡ r
-unfolding meant
-meant-said Good = refl
-meant-said (Bad i) = refl
-meant-said (Straddling v) = refl
-
 pub checkedSaid-injective : (r s : Checked) → checkedSaid r ≡ checkedSaid s → r ≡ s
-checkedSaid-injective r s e = sym (meant-said r) ∙ ap meant e ∙ meant-said s
+checkedSaid-injective Good Good e = refl
+checkedSaid-injective Good (Refused y) e = absurd (not-passed (sym e))
+checkedSaid-injective (Refused x) Good e = absurd (not-passed e)
+checkedSaid-injective (Refused x) (Refused y) e = ap Refused (ruled-injective x y e)

@@ -1,5 +1,5 @@
 -- What testing given records says, in 01's numbers and places, and what it leaves in the scratch.
--- Rests on Slots, and on paper's Refusals.
+-- Rests on Slots, paper's Refusals and refusals' Said.
 use Prim.Native.Nat.{ℕ, _+_, _<_}
 use mathlib.Core.Path.{_≡_}
 use mathlib.Core.Bool.{Bool, true, false, not}
@@ -7,18 +7,18 @@ use mathlib.Core.List.{List, [], _∷_}
 use Rattle.lists.specs.Found.{first}
 use Rattle.paper.specs.Area.{K}
 use Rattle.paper.specs.Records.{recordsIn}
-use Rattle.paper.specs.Refusals.{Ruling, passed, refusal, refuse, badRecord, rule12, rule13, decide}
+use Rattle.paper.specs.Refusals.{Ruling, passed, refuse, badRecord, rule12, rule13, decide}
+use Rattle.refusals.specs.Said.{ruled}
 use Rattle.tables.specs.Usable.{Scratched}
 use Rattle.tables.specs.Recorded.{Recorded, Slotted}
 use Rattle.records.specs.Slots.{slotsAt, marksAt}
 use Rattle.records.specs.declared.Checked.{Checked}
-use Rattle.records.specs.declared.Checked.the-variants.{Good, Bad, Straddling}
+use Rattle.records.specs.declared.Checked.the-variants.{Good, Refused}
 
 -- 01's number and place for each case
 abbrev pub checkedSaid : Checked → Ruling
 checkedSaid Good = passed
-checkedSaid (Bad i) = refusal 12 i
-checkedSaid (Straddling v) = refusal 13 v
+checkedSaid (Refused x) = ruled x
 
 -- the first i records are good, and for each line a slot and a mark tell which of them is its
 pub record Passed (b a : List ℕ) (n l : ℕ) (words : List ℕ) (i : ℕ) : Type 0 where

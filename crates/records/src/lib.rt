@@ -3,22 +3,36 @@ pub mod bad;
 pub mod inside;
 
 ghost use mathlib.Core.Path.{_≡_};
+ghost use mathlib.Core.Logic.{_≢_};
 ghost use Prim.Native.Nat.{ℕ, _*_, _≤_, _<_};
 ghost use lib.ListN.{length};
 ghost use Rattle.lists.specs.Found.{first};
-ghost use Rattle.paper.specs.Refusals.{refuse};
+ghost use Rattle.paper.specs.Refusals.{passed, refuse};
+ghost use Rattle.refusals.specs.Said.{ruled};
 ghost use Rattle.tables.specs.Usable.{Usable};
 ghost use Rattle.records.specs.Slots.{NodeAt, straddlesHere};
 ghost use Rattle.records.specs.Tested.{AllTested, Tested, checkedSaid};
 use bad::check_record;
 use inside::straddles;
+use refusals::Refusal;
+use refusals::never;
 use words::section::fill;
 
-// What the test of given records comes to: refusals 12 and 13, or that they may be used.
+// What the test of given records comes to: that they may be used, or refusal 12 or 13.
 pub enum Checked {
     Good,
-    Bad(usize),
-    Straddling(usize),
+    Refused(Refusal),
+}
+
+// The refusal of records that may not be used: a caller that has taken `Good` apart never asks for one.
+pub fn record_refusal(checked: Checked) -> Refusal
+    requires { ⌜ checkedSaid checked ≢ passed ⌝ }
+    ensures { λ r. ⌜ ruled r ≡ checkedSaid checked ⌝ }
+{
+    let Checked::Refused(x) = checked else {
+        return never();
+    };
+    x
 }
 
 // Tests the records one by one until one is bad: refusal 12. Each line of a good one gets a mark, and the record's number in its slot.
@@ -39,7 +53,7 @@ fn slot_records(
     let mut i = 0;
     while i < count {
         if !check_record(b, n, l, p, area, words, i) {
-            return Checked::Bad(i);
+            return Checked::Refused(Refusal::BadRecord(i));
         }
         i += 1;
     }
@@ -54,7 +68,7 @@ fn find_straddling(area: &[u16], n: usize, l: usize, words: &[u16]) -> Checked
     let mut v = 0;
     while v < n {
         if straddles(area, n, l, words, v) {
-            return Checked::Straddling(v);
+            return Checked::Refused(Refusal::Straddling(v));
         }
         v += 1;
     }
@@ -76,7 +90,7 @@ pub fn check_records(
 {
     let whole = words.len() / 3;
     if whole < count {
-        return Checked::Bad(whole);
+        return Checked::Refused(Refusal::BadRecord(whole));
     }
     let found = slot_records(b, n, l, p, area, words, count);
     let Checked::Good = found else {

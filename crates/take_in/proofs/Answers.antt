@@ -1,40 +1,40 @@
--- What each case of the answer tells a caller: which rules passed, and of a list that passes its nodes. Each answer's meaning tells
--- its cases apart. Rests on Passing.
-use Prim.Native.Nat.{ℕ, _-_, _≤_, _<_}
+-- What a list that was taken in tells a caller: 8, 9 and 10 passed, and its nodes stand in the area. Each answer's meaning tells its cases
+-- apart. Rests on Passing and refusals' Answers.
+use Prim.Native.Nat.{ℕ, _≤_, _<_}
 use native.Mathlib.Omega.{arith}
 use mathlib.Core.Path.{_≡_, refl, sym, ap, _∙_}
 use mathlib.Core.Bool.{Bool, true, false}
 use mathlib.Core.List.{List, [], _∷_}
 use lib.Dec.{leb, eqb}
-use lib.ListN.{length, getD}
-use borrow.Author.Tests.{eqb-true, eqb-false}
+use lib.ListN.{length}
+use borrow.Author.Tests.{eqb-false}
 use Rattle.lists.specs.Lists.{Distinct}
 use Rattle.lists.specs.Found.{Found, absent, at, placed}
 use Rattle.lists.proofs.Compare.{fits}
 use Rattle.lists.proofs.Places.{distinct-times}
 use Rattle.lists.proofs.Sections.{part}
 use Rattle.paper.specs.Refusals.{passed, refusal, refuse, earliest, rule8, rule10, decide, Answer, answer, refused, answered}
+use Rattle.refusals.specs.declared.Refusal.{Refusal}
+use Rattle.refusals.proofs.Answers.{meant, meant-back}
 use Rattle.take_in.specs.declared.Taken.{Taken}
-use Rattle.take_in.specs.declared.Taken.the-variants.{Empty, Unknown, Repeated, Nodes}
+use Rattle.take_in.specs.declared.Taken.the-variants.{Nodes, Refused}
 use Rattle.take_in.specs.Taking.{Known}
 use Rattle.take_in.specs.Said.{takenSaid, unknownIn, repeatIn, listRuled, TakenIn}
 use Rattle.take_in.proofs.Passing.{all-known, known-below, each-once}
 
-meant : Answer ℕ → Taken
-meant (answered c) = Nodes c
-meant (refused i v) = getD (Empty ∷ Unknown v ∷ Repeated v ∷ []) (i - 8) Empty
+meaning : Answer ℕ → Taken
+meaning (refused i v) = Refused (meant (refusal i v))
+meaning (answered c) = Nodes c
 
-meant-said : (r : Taken) → meant (takenSaid r) ≡ r
-unfolding meant
-meant-said Empty = refl
-meant-said (Unknown i) = refl
-meant-said (Repeated i) = refl
-meant-said (Nodes c) = refl
+meaning-said : (r : Taken) → meaning (takenSaid r) ≡ r
+unfolding meaning
+meaning-said (Nodes c) = refl
+meaning-said (Refused x) = ap (λ (y : Refusal). Refused y) (meant-back x)
 
 pub takenSaid-injective : (r s : Taken) → takenSaid r ≡ takenSaid s → r ≡ s
-takenSaid-injective r s e = sym (meant-said r) ∙ ap meant e ∙ meant-said s
+takenSaid-injective r s e = sym (meaning-said r) ∙ ap meaning e ∙ meaning-said s
 
--- ---- what the three rules found, from the answer
+-- ---- what the three rules found
 
 -- a refusal's number, and 0 for an answer
 numbered : Answer ℕ → ℕ
@@ -46,27 +46,6 @@ ruledBy : Bool → Found → Found → ℕ → Answer ℕ
 ruledBy t f g x = answer (decide (refuse 8 (placed t 0) ∷ refuse 9 f ∷ refuse 10 g ∷ [])) x
 
 module _ (x : ℕ) where
-  empty-told : (t : Bool) (f g : Found) → refused 8 0 ≡ ruledBy t f g x → t ≡ true
-  unfolding numbered ruledBy answer decide refuse
-  empty-told true f g e = refl
-  empty-told false (at i) g e = absurd (omega (arith, ap numbered e))
-  empty-told false absent (at i) e = absurd (omega (arith, ap numbered e))
-  empty-told false absent absent e = absurd (omega (arith, ap numbered e))
-
-  unknown-told : {i : ℕ} (t : Bool) (f g : Found) → refused 9 i ≡ ruledBy t f g x → (t ≡ false) × (f ≡ at i)
-  unfolding numbered ruledBy answer decide refuse
-  unknown-told true f g e = absurd (omega (arith, ap numbered e))
-  unknown-told false (at j) g e = (refl, cc)
-  unknown-told false absent (at j) e = absurd (omega (arith, ap numbered e))
-  unknown-told false absent absent e = absurd (omega (arith, ap numbered e))
-
-  repeated-told : {i : ℕ} (t : Bool) (f g : Found) → refused 10 i ≡ ruledBy t f g x → (t ≡ false) × (f ≡ absent) × (g ≡ at i)
-  unfolding numbered ruledBy answer decide refuse
-  repeated-told true f g e = absurd (omega (arith, ap numbered e))
-  repeated-told false (at j) g e = absurd (omega (arith, ap numbered e))
-  repeated-told false absent (at j) e = (refl, refl, cc)
-  repeated-told false absent absent e = absurd (omega (arith, ap numbered e))
-
   nodes-told : {c : ℕ} (t : Bool) (f g : Found) → answered c ≡ ruledBy t f g x → (t ≡ false) × (f ≡ absent) × (g ≡ absent) × (c ≡ x)
   unfolding numbered ruledBy answer decide refuse
   nodes-told true f g e = absurd (omega (arith, ap numbered e))
@@ -74,7 +53,7 @@ module _ (x : ℕ) where
   nodes-told false absent (at j) e = absurd (omega (arith, ap numbered e))
   nodes-told false absent absent e = (refl, refl, refl, cc)
 
--- ---- what a caller has of each case
+-- ---- what a caller has of the nodes
 
 -- c nodes, each once, which stand in m from `at` on; and 8, 9 and 10 pass
 pub record AllNodes (n : ℕ) (list : List ℕ) (at c : ℕ) (m : List ℕ) : Type 0 where
@@ -107,20 +86,6 @@ module _ {n : ℕ} {list a : List ℕ} {at : ℕ} {m : List ℕ} where
       → takenSaid r ≡ ruledBy (eqb (length list) 0) (earliest (leb n) list) (repeatIn list) (length list)
   unfolding ruledBy listRuled rule8 unknownIn rule10 repeatIn
   by-rules taken = taken .said
-
-  pub was-empty : TakenIn n list a at Empty m → length list ≡ 0
-  was-empty taken = eqb-true (length list) 0 (empty-told (length list) _ _ _ (by-rules taken))
-
-  pub was-unknown : {i : ℕ} → TakenIn n list a at (Unknown i) m → (rule8 (length list) ≡ passed) × (unknownIn n list ≡ refusal 9 i)
-  unfolding unknownIn refuse
-  was-unknown taken = let told = unknown-told (length list) _ _ _ (by-rules taken) in (some-pass list (told .0), ap (refuse 9) (told .1))
-
-  pub was-repeated : {i : ℕ} → TakenIn n list a at (Repeated i) m
-      → (rule8 (length list) ≡ passed) × (unknownIn n list ≡ passed) × (rule10 list ≡ refusal 10 i)
-  unfolding rule10 repeatIn refuse
-  was-repeated taken =
-      let told = repeated-told (length list) _ _ _ (by-rules taken) in
-      (some-pass list (told .0), known-pass list n (told .1), ap (refuse 10) (told .2))
 
   pub were-nodes : {c : ℕ} → TakenIn n list a at (Nodes c) m → AllNodes n list at c m
   were-nodes {c} taken =

@@ -19,11 +19,12 @@ use Rattle.lists.proofs.Members.{member-yes}
 use Rattle.lists.proofs.Places.{place-times}
 use Rattle.paper.specs.Map.{N}
 use Rattle.paper.specs.Refusals.{refuse, earliest, rule8, rule9, rule10, decide, Answer, answer, refused, answered}
+use Rattle.refusals.specs.declared.Refusal.the-variants.{Empty, Unknown, Repeated}
 use Rattle.tables.specs.Within.{Within}
 use Rattle.tables.proofs.Within.{within-none, within-both}
 use Rattle.take_in.specs.declared.Earliest.{Earliest}
 use Rattle.take_in.specs.declared.Earliest.the-variants.{Absent, At}
-use Rattle.take_in.specs.declared.Taken.the-variants.{Empty, Unknown, Repeated, Nodes}
+use Rattle.take_in.specs.declared.Taken.the-variants.{Nodes, Refused}
 use Rattle.take_in.specs.Taking.{Known}
 use Rattle.take_in.specs.Said.{earliestSaid, unknownIn, repeats, repeatIn, listRuled, EachTaken, TakenIn}
 
@@ -96,7 +97,7 @@ not-answered : {i v c : ℕ} → _≡_ {A = Answer ℕ} (refused i v) (answered 
 not-answered e = let z : _≡_ {A = ℕ} 0 1 = cc in omega arith
 
 module _ {n : ℕ} {list a : List ℕ} {at : ℕ} where
-  pub empty-list : length list ≡ 0 → TakenIn n list a at Empty a
+  pub empty-list : length list ≡ 0 → TakenIn n list a at (Refused Empty) a
   unfolding decide refuse answer
   empty-list e =
       record {
@@ -106,7 +107,7 @@ module _ {n : ℕ} {list a : List ℕ} {at : ℕ} where
       }
 
   module _ (some : length list ≡ 0 → ⊥) where
-    pub unknown-entry : {i : ℕ} → Found.at i ≡ earliest (leb n) list → TakenIn n list a at (Unknown i) a
+    pub unknown-entry : {i : ℕ} → Found.at i ≡ earliest (leb n) list → TakenIn n list a at (Refused (Unknown i)) a
     unfolding decide refuse answer
     unknown-entry e =
         record {
@@ -116,7 +117,7 @@ module _ {n : ℕ} {list a : List ℕ} {at : ℕ} where
         }
 
     module _ (known : absent ≡ earliest (leb n) list) {m o : List ℕ} (marked : Within at (2 * n) a m) where
-      pub repeated-entry : {i : ℕ} {r : Earliest} → r ≡ At i → EachTaken n list m at r o → TakenIn n list a at (Repeated i) o
+      pub repeated-entry : {i : ℕ} {r : Earliest} → r ≡ At i → EachTaken n list m at r o → TakenIn n list a at (Refused (Repeated i)) o
       unfolding decide refuse answer
       repeated-entry e each =
           record {

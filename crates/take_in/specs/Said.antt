@@ -1,5 +1,5 @@
 -- What taking in a list says, in 01's numbers and values, and what it leaves in the area.
--- Rests on paper's Refusals and tables' Within.
+-- Rests on paper's Refusals, refusals' Said and tables' Within.
 use Prim.Native.Nat.{ℕ, _*_}
 use mathlib.Core.Path.{_≡_}
 use mathlib.Core.Bool.{Bool}
@@ -9,24 +9,23 @@ use lib.ListN.{length, getD, take}
 use Rattle.lists.specs.Lists.{member}
 use Rattle.lists.specs.Found.{Found, absent, at, first}
 use Rattle.lists.proofs.Sections.{part}
-use Rattle.paper.specs.Refusals.{Ruling, refuse, earliest, rule8, rule10, decide, Answer, answer, refused, answered}
+use Rattle.paper.specs.Refusals.{Ruling, refuse, earliest, rule8, rule10, decide, Answer, answer, answered}
+use Rattle.refusals.specs.Said.{refusedBy}
 use Rattle.tables.specs.Within.{Within}
 use Rattle.take_in.specs.declared.Earliest.{Earliest}
 use Rattle.take_in.specs.declared.Earliest.the-variants.{Absent, At}
 use Rattle.take_in.specs.declared.Taken.{Taken}
-use Rattle.take_in.specs.declared.Taken.the-variants.{Empty, Unknown, Repeated, Nodes}
+use Rattle.take_in.specs.declared.Taken.the-variants.{Nodes, Refused}
 
 -- a bad entry's place
 abbrev pub earliestSaid : Earliest → Found
 earliestSaid Absent = absent
 earliestSaid (At i) = at i
 
--- 8: "empty list"; 9: "unknown node"; 10: "entry equal to an earlier one"; else how many nodes
+-- how many nodes, or a refusal with its number and place
 abbrev pub takenSaid : Taken → Answer ℕ
-takenSaid Empty = refused 8 0
-takenSaid (Unknown i) = refused 9 i
-takenSaid (Repeated i) = refused 10 i
 takenSaid (Nodes c) = answered c
+takenSaid (Refused x) = refusedBy x
 
 -- 9 of a map of n nodes
 unfoldable pub unknownIn : ℕ → List ℕ → Ruling

@@ -1,13 +1,18 @@
 // Taking in a caller's list: refusals 8, 9 and 10 in one step, for a list of any length, from words or from bytes. What passes
 // stands in the area as at most n nodes, each once, and nothing later sees the caller's list.
 ghost use mathlib.Core.Path.{_≡_};
+ghost use mathlib.Core.Logic.{_≢_};
 ghost use Prim.Native.Nat.{_+_, _*_, _<_, _≤_};
 ghost use lib.Dec.{leb};
 ghost use lib.ListN.{length};
-ghost use Rattle.paper.specs.Refusals.{earliest};
+ghost use Rattle.lists.specs.Found.{absent};
+ghost use Rattle.paper.specs.Refusals.{earliest, passed};
 ghost use Rattle.paper.specs.Words.{wordsFrom};
+ghost use Rattle.refusals.specs.Said.{ruled, ruling};
 ghost use Rattle.take_in.specs.Taking.{Known, Taking, Took};
-ghost use Rattle.take_in.specs.Said.{EachTaken, TakenIn, earliestSaid};
+ghost use Rattle.take_in.specs.Said.{EachTaken, TakenIn, earliestSaid, takenSaid};
+use refusals::Refusal;
+use refusals::never;
 use words::field::field_at;
 use words::field::wide;
 use words::section::fill;
@@ -18,12 +23,21 @@ enum Earliest {
     At(usize),
 }
 
-// What taking in a list comes to: refusals 8, 9 and 10, or how many nodes it has, which stand in the area.
+// What taking in a list comes to: how many nodes it has, which stand in the area, or refusal 8, 9 or 10.
 pub enum Taken {
-    Empty,
-    Unknown(usize),
-    Repeated(usize),
     Nodes(usize),
+    Refused(Refusal),
+}
+
+// The refusal of a list that was not taken in: a caller that has taken `Nodes` apart never asks for one.
+pub fn list_refusal(taken: Taken) -> Refusal
+    requires { ⌜ ruling (takenSaid taken) ≢ passed ⌝ }
+    ensures { λ r. ⌜ ruled r ≡ ruling (takenSaid taken) ⌝ }
+{
+    let Taken::Refused(x) = taken else {
+        return never();
+    };
+    x
 }
 
 // The first entry that is no node of n.
@@ -104,28 +118,50 @@ fn take_each_bytes(list: &[u8], n: usize, area: &mut [u16], at: usize) -> Earlie
     Earliest::Absent
 }
 
+// Takes in a list of words that is not empty and has only nodes: 10 comes at the latest at entry n.
+fn take_known(list: &[u16], n: usize, area: &mut [u16], at: usize) -> Taken
+    requires { ⌜ at + 2 * n ≤ length (now area) ⌝ }
+    requires { ⌜ length (now list) ≢ 0 ⌝ }
+    requires { ⌜ absent ≡ earliest (leb n) (now list) ⌝ }
+    ensures { λ r. ⌜ TakenIn n (now (list .entry)) (now (area .entry)) at r (now (area .exit)) ⌝ }
+{
+    fill(area, at + n, n, 0);
+    let repeated = take_each(list, n, area, at);
+    let Earliest::At(i) = repeated else {
+        return Taken::Nodes(list.len());
+    };
+    Taken::Refused(Refusal::Repeated(i))
+}
+
+// The same of a list in bytes.
+fn take_known_bytes(list: &[u8], n: usize, area: &mut [u16], at: usize) -> Taken
+    requires { ⌜ at + 2 * n ≤ length (now area) ⌝ }
+    requires { ⌜ length (wordsFrom (now list)) ≢ 0 ⌝ }
+    requires { ⌜ absent ≡ earliest (leb n) (wordsFrom (now list)) ⌝ }
+    ensures { λ r. ⌜ TakenIn n (wordsFrom (now (list .entry))) (now (area .entry)) at r (now (area .exit)) ⌝ }
+{
+    fill(area, at + n, n, 0);
+    let repeated = take_each_bytes(list, n, area, at);
+    let Earliest::At(i) = repeated else {
+        return Taken::Nodes(list.len() / 2);
+    };
+    Taken::Refused(Refusal::Repeated(i))
+}
+
 // Takes in a list of words: its nodes stand from `at` on, and after n words their marks. 9 anywhere comes before 10 anywhere, so the
-// whole list is looked through for an unknown node first; then a repeat comes at the latest at entry n.
+// whole list is looked through for an unknown node first.
 pub fn take_in(list: &[u16], n: usize, area: &mut [u16], at: usize) -> Taken
     requires { ⌜ at + 2 * n ≤ length (now area) ⌝ }
     ensures { λ r. ⌜ TakenIn n (now (list .entry)) (now (area .entry)) at r (now (area .exit)) ⌝ }
 {
     if list.len() == 0 {
-        return Taken::Empty;
+        return Taken::Refused(Refusal::Empty);
     }
     let unknown = first_unknown(list, n);
-    match unknown {
-        Earliest::At(i) => {
-            return Taken::Unknown(i);
-        }
-        Earliest::Absent => {}
-    }
-    fill(area, at + n, n, 0);
-    let repeated = take_each(list, n, area, at);
-    match repeated {
-        Earliest::At(i) => Taken::Repeated(i),
-        Earliest::Absent => Taken::Nodes(list.len()),
-    }
+    let Earliest::At(i) = unknown else {
+        return take_known(list, n, area, at);
+    };
+    Taken::Refused(Refusal::Unknown(i))
 }
 
 // Takes in a list whose words cross as bytes.
@@ -133,21 +169,12 @@ pub fn take_in_bytes(list: &[u8], n: usize, area: &mut [u16], at: usize) -> Take
     requires { ⌜ at + 2 * n ≤ length (now area) ⌝ }
     ensures { λ r. ⌜ TakenIn n (wordsFrom (now (list .entry))) (now (area .entry)) at r (now (area .exit)) ⌝ }
 {
-    let count = list.len() / 2;
-    if count == 0 {
-        return Taken::Empty;
+    if list.len() / 2 == 0 {
+        return Taken::Refused(Refusal::Empty);
     }
     let unknown = first_unknown_bytes(list, n);
-    match unknown {
-        Earliest::At(i) => {
-            return Taken::Unknown(i);
-        }
-        Earliest::Absent => {}
-    }
-    fill(area, at + n, n, 0);
-    let repeated = take_each_bytes(list, n, area, at);
-    match repeated {
-        Earliest::At(i) => Taken::Repeated(i),
-        Earliest::Absent => Taken::Nodes(count),
-    }
+    let Earliest::At(i) = unknown else {
+        return take_known_bytes(list, n, area, at);
+    };
+    Taken::Refused(Refusal::Unknown(i))
 }

@@ -33,13 +33,13 @@ fn answer_for(b: &[u8], n: usize, l: usize, p: usize, area: &mut [u16], taken: L
     requires { ⌜ Fresh (now area) n l p ⌝ }
     ensures { λ r. ⌜ TakenAnswered (now (b .entry)) (now (area .entry)) n l p taken r (now (area .exit)) ⌝ }
 {
-    if let Listed::Unknown(i) = taken {
-        return TopoAnswer::Refused(Refusal::Unknown(i));
-    }
-    if marked_convex(b, n, l, p, area) {
-        return TopoAnswer::Yes;
-    }
-    TopoAnswer::No
+    let Listed::Unknown(i) = taken else {
+        if marked_convex(b, n, l, p, area) {
+            return TopoAnswer::Yes;
+        }
+        return TopoAnswer::No;
+    };
+    TopoAnswer::Refused(Refusal::Unknown(i))
 }
 
 // Whether the nodes listed induce a convex subgraph, the list as a set (the Rust's `is_node_convex`).

@@ -54,11 +54,11 @@ module _ {A : Type 0} {n l p : ℕ} {a m : List ℕ} {said : Answer A} {rules : 
   decided = sym (ruling-answer (decide rules) x) ∙ ap ruling (sym (checked .says))
 
   -- "the check chosen, whose refusals come first"
-  pub check-refused : {k v : ℕ} → said ≡ refused k v → (rest : List Ruling) (y : A) → Answered n l p a m (refused k v) (rules ++ rest) y
+  pub check-refused : {k v : ℕ} → said ≡ refused k v → (rest : List Ruling) (y : A) → Answered n l p a m said (rules ++ rest) y
   unfolding ruling answer
   check-refused {k} {v} e rest y =
       record {
-        says = ap (λ (u : Ruling). answer u y) (sym (first-decides rules rest (λ f. no-refusal (sym f ∙ refuses)) ∙ refuses));
+        says = e ∙ ap (λ (u : Ruling). answer u y) (sym (first-decides rules rest (λ f. no-refusal (sym f ∙ refuses)) ∙ refuses));
         kept = checked .kept;
       }
     where

@@ -51,11 +51,11 @@ pub fn check_list_with_ports(
         (lineCheck (now (b .entry)) (now (area .entry)) (now (list .entry)))) ⌝ }
 {
     let checked = check_list(b, n, l, p, area, list);
-    if let LineAnswer::Refused(x) = checked {
-        return LineAnswer::Refused(x);
-    }
-    let found = check_ports(b, n, l, p, area, 3 + 6 * n + 5 * l, inputs, outputs);
-    line_after_ports(found, checked)
+    let LineAnswer::Refused(_) = checked else {
+        let found = check_ports(b, n, l, p, area, 3 + 6 * n + 5 * l, inputs, outputs);
+        return line_after_ports(found, checked);
+    };
+    checked
 }
 
 // The order check's answer by what the ports come to: refusal 14, no on a conflict, else what it was.
@@ -87,9 +87,9 @@ pub fn check_order_with_ports(
         (orderCheck (now (b .entry)) (now (area .entry)) (now (list .entry)))) ⌝ }
 {
     let checked = check_order(b, n, l, p, area, list);
-    if let TopoAnswer::Refused(x) = checked {
-        return TopoAnswer::Refused(x);
-    }
-    let found = check_ports(b, n, l, p, area, 3 + 6 * n + 5 * l, inputs, outputs);
-    order_after_ports(found, checked)
+    let TopoAnswer::Refused(_) = checked else {
+        let found = check_ports(b, n, l, p, area, 3 + 6 * n + 5 * l, inputs, outputs);
+        return order_after_ports(found, checked);
+    };
+    checked
 }

@@ -24,16 +24,18 @@ take-in-bytes-requires c κs = search needs
 enum-known-taken : tie.Need-enum-known-taken
 enum-known-taken c = search needs
 
+enum-told : tie.Need-enum-told
+enum-told c = search needs
+
 list-refusal-requires : tie.Need-list-refusal-requires
-list-refusal-requires c κs =
-    not-taken (c .before .before .before .take-in-bytes .result) (c .match .keys2)
+list-refusal-requires c κs = not-taken (c .enum-told .given .1)
 
 same-length : tie.Need-same-length
 same-length c = search needs
 
 returns : tie.Need-returns
 returns c =
-    let taking = c .before .before .before .before in
+    let taking = c .before .before .before .before .before in
     let start = taking .before .before .before .before .before in
     list-refused (start .pre) (taking .take-in-bytes .ensures) (c .list-refusal .result) (c .list-refusal .ensures) _
 
@@ -67,6 +69,7 @@ check-list-bytes-spec =
     add-take-in-bytes-2
     take-in-bytes-requires
     enum-known-taken
+    enum-told
     list-refusal-requires
     same-length
     returns

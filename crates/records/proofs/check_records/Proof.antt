@@ -1,10 +1,7 @@
 -- `records::check_records` meets its contract: 12 by the count or at a bad record, else what 13 says.
 -- Rests on Testing.
 use borrow.Author.Needs.{needs}
-use mathlib.Core.Path.{refl}
-use denote.Enum.Declared.{tagOf}
-use Rattle.records.proofs.Testing.{beyond, bad-record, nodes-there, all-tested, other-tag}
-use Rattle.records.proofs.Checked.{the-type}
+use Rattle.records.proofs.Testing.{beyond, bad-record, nodes-there, all-tested}
 use Rattle.records.proofs.check_records.Statement.{statement}
 use Rattle.records.proofs.check_records.Tie as tie
 
@@ -19,13 +16,16 @@ slot-records-requires c κs = search needs
 enum-told : tie.Need-enum-told
 enum-told c = search needs
 
+enum-told-2 : tie.Need-enum-told-2
+enum-told-2 c = search needs
+
 same-length : tie.Need-same-length
 same-length c = search needs
 
 returns-2 : tie.Need-returns-2
 returns-2 c =
-    let slotted = c .before .before .before in
-    bad-record (slotted .before .before .before .before .before .before .pre) (slotted .before .before .if1 .left) (slotted .slot-records .ensures) (other-tag (tagOf the-type) refl (c .match .keys2))
+    let slotted = c .before .before .before .before in
+    bad-record (slotted .before .before .before .before .before .before .pre) (slotted .before .before .if1 .left) (slotted .slot-records .ensures) (c .enum-told2 .given .1)
 
 find-straddling-requires : tie.Need-find-straddling-requires
 find-straddling-requires c κs =
@@ -47,6 +47,7 @@ check-records-spec =
     returns
     slot-records-requires
     enum-told
+    enum-told-2
     same-length
     returns-2
     find-straddling-requires

@@ -5,43 +5,20 @@ use Rattle.topo_checker.proofs.Checking.{unknown-said, yes-said, no-sai
 use Rattle.topo_checker.proofs.answer_for.Statement.{statement}
 use Rattle.topo_checker.proofs.answer_for.Tie as tie
 
-enum-known-taken : tie.Need-enum-known-taken
-enum-known-taken c = search needs
-
 returns : tie.Need-returns
-returns c = unknown-said (c .before .taken .given .1)
-
-enum-told : tie.Need-enum-told
-enum-told c = search needs
-
-marked-convex-requires : tie.Need-marked-convex-requires
-marked-convex-requires c κs = search needs
-
-same-length : tie.Need-same-length
-same-length c = search needs
+returns c =
+    let checked = c .before .before .before in
+    yes-said (checked .before .before .enum-told .given .1) (checked .marked-convex .ensures) (c .if1 .taken)
 
 returns-2 : tie.Need-returns-2
 returns-2 c =
     let checked = c .before .before .before in
-    yes-said (checked .before .before .enum-told .given .1) (checked .marked-convex .ensures) (c .if1 .taken)
-
-same-length-2 : tie.Need-same-length-2
-same-length-2 c = search needs
+    no-said (checked .before .before .enum-told .given .1) (checked .marked-convex .ensures) (c .if1 .left)
 
 returns-3 : tie.Need-returns-3
-returns-3 c =
-    let checked = c .before .before .before in
-    no-said (checked .before .before .enum-told .given .1) (checked .marked-convex .ensures) (c .if1 .left)
+returns-3 c = unknown-said (c .before .taken .given .1)
 
 pub answer-for-spec : {M : Type 1} → statement M
 answer-for-spec =
     tie.close
-    (tie.spec
-    enum-known-taken
-    returns
-    enum-told
-    marked-convex-requires
-    same-length
-    returns-2
-    same-length-2
-    returns-3)
+    (tie.spec (search needs) (search needs) (λ c κs. search needs) (search needs) returns (search needs) returns-2 returns-3)

@@ -19,20 +19,22 @@ check-records-requires c κs = search needs
 enum-told : tie.Need-enum-told
 enum-told c = search needs
 
+enum-told-2 : tie.Need-enum-told-2
+enum-told-2 c = search needs
+
 record-refusal-requires : tie.Need-record-refusal-requires
-record-refusal-requires c κs =
-    is-bad (c .before .before .before .check-records .result) (c .match .keys2)
+record-refusal-requires c κs = is-bad (c .enum-told2 .given .1)
 
 same-length : tie.Need-same-length
 same-length c = search needs
 
 returns-2 : tie.Need-returns-2
 returns-2 c =
-    let tested = c .before .before .before .before in
+    let tested = c .before .before .before .before .before in
     let asked = tested .before .before in
     let start = asked .before .before .before .before in
     by-records-refused (start .pre) (tested .check-records .ensures) (asked .if1 .left) (c .record-refusal .result) (c .record-refusal .ensures)
-    (is-bad (tested .check-records .result) (c .before .match .keys2))
+    (is-bad (c .before .enum-told2 .given .1))
 
 walk-requires : tie.Need-walk-requires
 walk-requires c κs =
@@ -66,6 +68,7 @@ check-by-records-spec =
     returns
     check-records-requires
     enum-told
+    enum-told-2
     record-refusal-requires
     same-length
     returns-2

@@ -20,22 +20,24 @@ check-records-requires c κs = search needs
 enum-told : tie.Need-enum-told
 enum-told c = search needs
 
+enum-told-2 : tie.Need-enum-told-2
+enum-told-2 c = search needs
+
 record-refusal-requires : tie.Need-record-refusal-requires
-record-refusal-requires c κs =
-    is-bad (c .before .before .before .check-records .result) (c .match .keys2)
+record-refusal-requires c κs = is-bad (c .enum-told2 .given .1)
 
 same-length : tie.Need-same-length
 same-length c = search needs
 
 returns : tie.Need-returns
 returns c =
-    let tested = c .before .before .before .before in
+    let tested = c .before .before .before .before .before in
     let start = tested .before .before .before .before .before .before in
     let rest : List Ruling = rule11 (length (start .args .buffer .now)) (length (nodesIn (start .args .b .now) (start .args .area .now) (recordsIn (start .args .records .now) (start .args .count)))) ∷ [] in
     into-answered (tested .check-records .ensures .kept) (
     into-refused _ _ _ _
     (records-refused (start .pre) (tested .check-records .ensures) (c .record-refusal .ensures)
-    (is-bad (tested .check-records .result) (c .before .match .keys2)) rest)
+    (is-bad (c .before .enum-told2 .given .1)) rest)
     )
 
 write-nodes-requires : tie.Need-write-nodes-requires
@@ -68,6 +70,7 @@ nodes-of-records-spec =
     (tie.spec
     check-records-requires
     enum-told
+    enum-told-2
     record-refusal-requires
     same-length
     returns
