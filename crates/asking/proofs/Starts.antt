@@ -23,7 +23,7 @@ use Rattle.text.specs.Printed.{Put, firstLine}
 use Rattle.text.proofs.Printed.{first-is, first-short}
 use Rattle.convex.specs.Said.{preparedSaid}
 use Rattle.convex.specs.declared.prepare.Prepared.{Prepared}
-use Rattle.convex.specs.declared.prepare.Prepared.the-variants.{Malformed, TooLarge, NoRoom, Missing, Second, Cycle, Lines}
+use Rattle.convex.specs.declared.prepare.Prepared.the-variants.{Lines, Refused}
 use Rattle.convex.proofs.prepare.Prepared.{the-type}
 use Rattle.asking.specs.Standing.{preparedArea, Standing}
 use Rattle.asking.specs.Printed.{Shown}
@@ -72,15 +72,10 @@ module _ (b input : List ℕ) where
 
 -- ---- as the program meets them: the map is within its length, and preparing has answered r
 
--- in its first six cases preparing has refused
-never-lines : (r : Prepared) → OneOf (0 ∷ 1 ∷ 2 ∷ 3 ∷ 4 ∷ 5 ∷ []) (tagOf the-type r) → (k : ℕ) → preparedSaid r ≡ answered k → ⊥
-never-lines Malformed h k e = never-answered e
-never-lines TooLarge h k e = never-answered e
-never-lines NoRoom h k e = never-answered e
-never-lines (Missing j) h k e = never-answered e
-never-lines (Second j) h k e = never-answered e
-never-lines (Cycle v) h k e = never-answered e
-never-lines (Lines j) h k e = miss (0 ∷ 1 ∷ 2 ∷ 3 ∷ 4 ∷ 5 ∷ []) 6 tt h
+-- without lines preparing has refused
+never-lines : (r : Prepared) → OneOf (1 ∷ []) (tagOf the-type r) → (k : ℕ) → preparedSaid r ≡ answered k → ⊥
+never-lines (Lines j) h k e = miss (1 ∷ []) 0 tt h
+never-lines (Refused x) h k e = never-answered e
 
 module _ (b input a : List ℕ) {m : List ℕ} (r : Prepared) (small : length b ≤ 65000) (room : 31751 ≤ length a)
     (answered-so : record { answer = preparedSaid r; area = m } ≡ prepare b a) where
@@ -90,7 +85,7 @@ module _ (b input a : List ℕ) {m : List ℕ} (r : Prepared) (small : length b 
   said-there : prepare b (replicate (W b) 0) .answer ≡ preparedSaid r
   said-there = sym (said ∙ same-answer b a room)
 
-  pub refused-map : OneOf (0 ∷ 1 ∷ 2 ∷ 3 ∷ 4 ∷ 5 ∷ []) (tagOf the-type r) → ask b input ≡ refusedLine (preparedSaid r)
+  pub refused-map : OneOf (1 ∷ []) (tagOf the-type r) → ask b input ≡ refusedLine (preparedSaid r)
   unfolding refusedLine
   refused-map h = within b input small ∙ go (preparedSaid r) refl said-there
     where

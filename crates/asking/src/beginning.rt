@@ -1,6 +1,8 @@
 // How the output begins: one line that is all of it, or the first line, after which come the lists.
 use convex::prepare::Prepared;
 use convex::prepare::prepare;
+use refusals::number;
+use refusals::place;
 use stepmap::read::link_count;
 use stepmap::read::node_count;
 use text::printer::put_first;
@@ -22,15 +24,10 @@ fn put_unprepared(out: &mut [u8], answer: Prepared) -> usize
     requires { ⌜ 50 ≤ length (now out) ⌝ }
     ensures { λ r. ⌜ Put (now (out .entry)) 0 (refusedLine (preparedSaid answer)) (now (out .exit)) r ⌝ }
 {
-    match answer {
-        Prepared::Malformed => put_refused_line(out, 0, 1, 0),
-        Prepared::TooLarge => put_refused_line(out, 0, 2, 0),
-        Prepared::NoRoom => put_refused_line(out, 0, 3, 0),
-        Prepared::Missing(k) => put_refused_line(out, 0, 4, k),
-        Prepared::Second(k) => put_refused_line(out, 0, 5, k),
-        Prepared::Cycle(v) => put_refused_line(out, 0, 6, v),
-        Prepared::Lines(_) => 0,
-    }
+    let Prepared::Refused(x) = answer else {
+        return 0;
+    };
+    put_refused_line(out, 0, number(x), place(x))
 }
 
 // Prepares the area for the map. The map's length comes first, then its refusal, then the input's length.

@@ -3,6 +3,8 @@
 // that are not all equal is written as how many they are, how many are not 0, and their checksum.
 use convex::prepare::Prepared;
 use libc::STDOUT_FILENO;
+use refusals::number as number_of;
+use refusals::place as place_of;
 use stepmap::read::StepMap;
 use stepmap::read::read_map;
 use words::field::wide;
@@ -29,17 +31,12 @@ fn write_refusal(number: usize, place: usize) {
 // The answer: `refused`, number and place, or `lines` and K.
 pub fn write_answer(answer: Prepared) {
     match answer {
-        Prepared::Malformed => write_refusal(1, 0),
-        Prepared::TooLarge => write_refusal(2, 0),
-        Prepared::NoRoom => write_refusal(3, 0),
-        Prepared::Missing(k) => write_refusal(4, k),
-        Prepared::Second(k) => write_refusal(5, k),
-        Prepared::Cycle(v) => write_refusal(6, v),
         Prepared::Lines(k) => {
             write(b"lines ");
             write_number(k);
             write(b"\n");
         }
+        Prepared::Refused(x) => write_refusal(number_of(x), place_of(x)),
     }
 }
 

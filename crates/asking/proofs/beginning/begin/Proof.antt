@@ -30,6 +30,9 @@ prepare-requires c κs = search needs
 enum-known-prepared : tie.Need-enum-known-prepared
 enum-known-prepared c = search needs
 
+enum-told : tie.Need-enum-told
+enum-told c = search needs
+
 put-unprepared-requires : tie.Need-put-unprepared-requires
 put-unprepared-requires c κs = search needs
 
@@ -42,7 +45,7 @@ same-length-3 c = search needs
 returns-2 : tie.Need-returns-2
 returns-2 c =
     let put = c .before .before in
-    let matched = put .before .before in
+    let matched = put .before .before .before in
     let made = matched .before .before .before in
     let start = made .before .before .before .before .before .before .before in
     whole
@@ -122,6 +125,7 @@ begin-spec =
     returns
     prepare-requires
     enum-known-prepared
+    enum-told
     put-unprepared-requires
     same-length-2
     same-length-3

@@ -15,16 +15,19 @@ open-shared-requires c κs = search needs
 enum-known-opened : tie.Need-enum-known-opened
 enum-known-opened c = search needs
 
+enum-told : tie.Need-enum-told
+enum-told c = search needs
+
 refusal-requires : tie.Need-refusal-requires
 refusal-requires c κs =
-    is-refusal (c .before .open-shared .result) (c .match .keys2)
+    is-refusal (c .before .before .open-shared .result) (c .before .match .keys2)
 
 returns : tie.Need-returns
 returns c =
-    let asked = c .before .before in
+    let asked = c .before .before .before in
     let args = asked .before .before .before .args in
     let known = opened (args .map .now) (args .area .now) (asked .open-shared .result) (asked .open-shared .ensures) in
-    view-refused known _ (is-refusal (asked .open-shared .result) (c .before .match .keys2)) (c .refusal .result) (c .refusal .ensures)
+    view-refused known _ (is-refusal (asked .open-shared .result) (c .before .before .match .keys2)) (c .refusal .result) (c .refusal .ensures)
 
 returns-2 : tie.Need-returns-2
 returns-2 c =
@@ -152,6 +155,7 @@ view-at-port-spec =
     (tie.spec
     open-shared-requires
     enum-known-opened
+    enum-told
     refusal-requires
     returns
     returns-2

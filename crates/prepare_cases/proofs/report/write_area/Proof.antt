@@ -13,6 +13,9 @@ read-map-requires c κs = search needs
 enum-known-found : tie.Need-enum-known-found
 enum-known-found c = search needs
 
+enum-told : tie.Need-enum-told
+enum-told c = search needs
+
 slice-aggregate-write-section : tie.Need-slice-aggregate-write-section
 slice-aggregate-write-section c = search needs
 
@@ -34,6 +37,7 @@ write-area-spec =
     (tie.spec
     read-map-requires
     enum-known-found
+    enum-told
     slice-aggregate-write-section
     write-section-requires
     returns

@@ -14,6 +14,9 @@ read-map-requires c κs = search needs
 enum-known-found : tie.Need-enum-known-found
 enum-known-found c = search needs
 
+enum-told : tie.Need-enum-told
+enum-told c = search needs
+
 returns : tie.Need-returns
 returns c = search needs
 
@@ -43,6 +46,7 @@ same-section-spec =
     (tie.spec
     read-map-requires
     enum-known-found
+    enum-told
     returns
     returns-2
     shared-slice-read-wide
