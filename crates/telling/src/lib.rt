@@ -130,8 +130,8 @@ pub fn tell_nodes(answer: NodesAnswer, count: &mut u64, number: &mut u64, place:
         ≡ tell inCount (nodesSaid answer) (now (count .entry) ∷ []) (now (number .entry)) (now (place .entry)) ⌝ }
 {
     match answer {
-        NodesAnswer::Nodes(made) => {
-            put(count, made);
+        NodesAnswer::Nodes(found) => {
+            put(count, found);
             1
         }
         NodesAnswer::Refused(x) => tell_refusal(x, number, place),

@@ -1,2 +1,4 @@
 pub mod Exported
+pub mod Heard
+pub mod Promises
 pub mod View

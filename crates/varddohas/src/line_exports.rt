@@ -1,4 +1,4 @@
-// The line checker exported.
+// The line checker exported. The two checks of a list keep demand 3's promise in what a host hears from their numbers (`heardLine`).
 ghost use mathlib.Core.Path.{_≡_};
 ghost use mathlib.Core.List.{[], _∷_};
 ghost use Rattle.paper.specs.Calls.{
@@ -11,7 +11,9 @@ ghost use Rattle.paper.specs.Calls.{
   linesAtPort,
 };
 ghost use Rattle.paper.specs.Exports.{export, exportWith, inCount, inLineReply, inPair, inWritten, tell, viewAt};
+ghost use Rattle.paper.specs.Promise.{KnownPorts, LinePortsPromise, LinePromise, StepList, Trusted};
 ghost use Rattle.paper.specs.Words.{wordsFrom};
+ghost use Rattle.varddohas.specs.Heard.{heardLine};
 use byte_calls::line_convex_checker::get_intervals_from_nodes;
 use byte_calls::line_convex_checker::is_convex;
 use byte_calls::line_convex_checker::is_convex_by_intervals;
@@ -42,6 +44,9 @@ pub extern "C" fn varddohas_line_is_node_convex(
     ensures { λ r. ⌜ record { told = record { case = r; values = now (count .exit) ∷ []; number = now (number .exit); place = now (place .exit) }; area = now (area .exit) }
         ≡ export inLineReply (now (count .entry) ∷ []) (now (number .entry)) (now (place .entry)) (now (area .entry))
         (isNodeConvex (now (map .entry)) (wordsFrom (now (area .entry))) (wordsFrom (now (list .entry)))) ⌝ }
+    ensures { λ r. ⌜ (Trusted (now (map .entry)) (wordsFrom (now (area .entry))) → StepList (now (map .entry)) (wordsFrom (now (list .entry)))
+        → LinePromise (now (map .entry)) (wordsFrom (now (area .entry))) (wordsFrom (now (list .entry)))
+        (heardLine r (now (count .exit)) (now (number .exit)) (now (place .exit)))) ⌝ }
 {
     let mut room = area_room();
     let words = read_area(area, &mut room);
@@ -65,6 +70,10 @@ pub extern "C" fn varddohas_line_is_convex(
     ensures { λ r. ⌜ record { told = record { case = r; values = now (count .exit) ∷ []; number = now (number .exit); place = now (place .exit) }; area = now (area .exit) }
         ≡ export inLineReply (now (count .entry) ∷ []) (now (number .entry)) (now (place .entry)) (now (area .entry))
         (isConvex (now (map .entry)) (wordsFrom (now (area .entry))) (wordsFrom (now (list .entry))) (wordsFrom (now (inputs .entry))) (wordsFrom (now (outputs .entry)))) ⌝ }
+    ensures { λ r. ⌜ (Trusted (now (map .entry)) (wordsFrom (now (area .entry))) → StepList (now (map .entry)) (wordsFrom (now (list .entry)))
+        → KnownPorts (now (map .entry)) (wordsFrom (now (inputs .entry))) → KnownPorts (now (map .entry)) (wordsFrom (now (outputs .entry)))
+        → LinePortsPromise (now (map .entry)) (wordsFrom (now (area .entry))) (wordsFrom (now (list .entry))) (wordsFrom (now (inputs .entry))) (wordsFrom (now (outputs .entry)))
+        (heardLine r (now (count .exit)) (now (number .exit)) (now (place .exit)))) ⌝ }
 {
     let mut room = area_room();
     let words = read_area(area, &mut room);

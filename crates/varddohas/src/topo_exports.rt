@@ -1,9 +1,11 @@
-// The order checker exported.
+// The order checker exported. Both checks keep demand 3's promise in what a host hears from their numbers (`heardOrder`).
 ghost use mathlib.Core.Path.{_≡_};
 ghost use mathlib.Core.List.{[]};
 ghost use Rattle.paper.specs.Calls.{topoIsConvex, topoIsNodeConvex};
 ghost use Rattle.paper.specs.Exports.{export, inReply};
+ghost use Rattle.paper.specs.Promise.{KnownPorts, KnownSteps, OrderPortsPromise, OrderPromise, Trusted};
 ghost use Rattle.paper.specs.Words.{wordsFrom};
+ghost use Rattle.varddohas.specs.Heard.{heardOrder};
 use byte_calls::topo_convex_checker::is_convex;
 use byte_calls::topo_convex_checker::is_node_convex;
 use crossing::area_room;
@@ -23,6 +25,8 @@ pub extern "C" fn varddohas_topo_is_node_convex(
     ensures { λ r. ⌜ record { told = record { case = r; values = []; number = now (number .exit); place = now (place .exit) }; area = now (area .exit) }
         ≡ export inReply [] (now (number .entry)) (now (place .entry)) (now (area .entry))
         (topoIsNodeConvex (now (map .entry)) (wordsFrom (now (area .entry))) (wordsFrom (now (list .entry)))) ⌝ }
+    ensures { λ r. ⌜ (Trusted (now (map .entry)) (wordsFrom (now (area .entry))) → KnownSteps (now (map .entry)) (wordsFrom (now (list .entry)))
+        → OrderPromise (now (map .entry)) (wordsFrom (now (list .entry))) (heardOrder r (now (number .exit)) (now (place .exit)))) ⌝ }
 {
     let mut room = area_room();
     let words = read_area(area, &mut room);
@@ -45,6 +49,10 @@ pub extern "C" fn varddohas_topo_is_convex(
     ensures { λ r. ⌜ record { told = record { case = r; values = []; number = now (number .exit); place = now (place .exit) }; area = now (area .exit) }
         ≡ export inReply [] (now (number .entry)) (now (place .entry)) (now (area .entry))
         (topoIsConvex (now (map .entry)) (wordsFrom (now (area .entry))) (wordsFrom (now (list .entry))) (wordsFrom (now (inputs .entry))) (wordsFrom (now (outputs .entry)))) ⌝ }
+    ensures { λ r. ⌜ (Trusted (now (map .entry)) (wordsFrom (now (area .entry))) → KnownSteps (now (map .entry)) (wordsFrom (now (list .entry)))
+        → KnownPorts (now (map .entry)) (wordsFrom (now (inputs .entry))) → KnownPorts (now (map .entry)) (wordsFrom (now (outputs .entry)))
+        → OrderPortsPromise (now (map .entry)) (wordsFrom (now (list .entry))) (wordsFrom (now (inputs .entry))) (wordsFrom (now (outputs .entry)))
+        (heardOrder r (now (number .exit)) (now (place .exit)))) ⌝ }
 {
     let mut room = area_room();
     let words = read_area(area, &mut room);
