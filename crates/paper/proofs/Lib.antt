@@ -8,3 +8,4 @@ pub mod Recorded
 pub mod Refused
 pub mod Plain
 pub mod Promise
+pub mod Heard

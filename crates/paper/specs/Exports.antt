@@ -1,7 +1,9 @@
 -- The exported functions, "on numbers and byte slices": each is a call of Calls whose words cross as bytes. A number says the case, and the
 -- values go to parameters of their own. Rests on Calls and Words.
 use Prim.Native.Nat.{ℕ, _+_}
+use mathlib.Core.Bool.{cond}
 use mathlib.Core.List.{List, [], _∷_, _++_}
+use lib.Dec.{eqb}
 use lib.Seq.{sets}
 use Rattle.paper.specs.Map.{portNode}
 use Rattle.paper.specs.Area.{Section, start, wordOf}
@@ -45,6 +47,18 @@ module _ {A : Type 0} where
   tell numbers (refused n p) values number place = record { case = 3; values = values; number = n; place = p }
   tell numbers (answered x) values number place =
       record { case = numbers x .0; values = sets values 0 (numbers x .1); number = number; place = place }
+
+-- ---- .. and what a host hears from them: the answer of a check, read back
+
+-- the line check: 1 is yes and 2 is no, each with the count; else it is refused, with number and place
+unfoldable pub heardLine : (case count number place : ℕ) → Answer (Reply × ℕ)
+heardLine case count number place =
+    cond (eqb case 1) (answered (Yes, count)) (cond (eqb case 2) (answered (No, count)) (refused number place))
+
+-- the order check, which has no count
+unfoldable pub heardOrder : (case number place : ℕ) → Answer Reply
+heardOrder case number place =
+    cond (eqb case 1) (answered Yes) (cond (eqb case 2) (answered No) (refused number place))
 
 -- ---- .. and what stands in the lent bytes: the words that the call leaves are put back
 

@@ -1,4 +1,3 @@
 pub mod Exported
-pub mod Heard
 pub mod Promises
 pub mod View

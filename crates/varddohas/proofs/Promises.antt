@@ -1,10 +1,10 @@
 -- What the exported checks tell keeps demand 3's promise: heard by a host, it is the answer of the paper's call on the words of the lent bytes.
--- Rests on Heard and trust_theory.
+-- Rests on paper's Heard and trust_theory.
 use Prim.Native.Nat.{ℕ}
 use mathlib.Core.Path.{_≡_, sym, ap, subst}
 use mathlib.Core.List.{List, [], _∷_}
 use Rattle.paper.specs.Calls.{isNodeConvex, topoIsNodeConvex, isConvex, topoIsConvex}
-use Rattle.paper.specs.Exports.{Export, export, inLineReply, inReply}
+use Rattle.paper.specs.Exports.{Export, export, inLineReply, inReply, heardLine, heardOrder}
 use Rattle.paper.specs.Promise.{
   Trusted,
   KnownSteps,
@@ -15,8 +15,7 @@ use Rattle.paper.specs.Promise.{
   LinePortsPromise,
   OrderPortsPromise,
 }
-use Rattle.varddohas.specs.Heard.{heardLine, heardOrder}
-use Rattle.varddohas.proofs.Heard.{line-heard-told, order-heard-told}
+use Rattle.paper.proofs.Heard.{line-heard-told, order-heard-told}
 use Rattle.trust_theory.proofs.Promise.{line-promise, order-promise, line-ports-promise, order-ports-promise}
 
 -- ---- the line check: case, count, number and place as they are told, over count, number and place as they were (c₀, n₀, p₀)

@@ -10,10 +10,9 @@ ghost use Rattle.paper.specs.Calls.{
   nodesInIntervals,
   linesAtPort,
 };
-ghost use Rattle.paper.specs.Exports.{export, exportWith, inCount, inLineReply, inPair, inWritten, tell, viewAt};
+ghost use Rattle.paper.specs.Exports.{export, exportWith, heardLine, inCount, inLineReply, inPair, inWritten, tell, viewAt};
 ghost use Rattle.paper.specs.Promise.{KnownPorts, LinePortsPromise, LinePromise, StepList, Trusted};
 ghost use Rattle.paper.specs.Words.{wordsFrom};
-ghost use Rattle.varddohas.specs.Heard.{heardLine};
 use byte_calls::line_convex_checker::get_intervals_from_nodes;
 use byte_calls::line_convex_checker::is_convex;
 use byte_calls::line_convex_checker::is_convex_by_intervals;

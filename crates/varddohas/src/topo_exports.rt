@@ -2,10 +2,9 @@
 ghost use mathlib.Core.Path.{_≡_};
 ghost use mathlib.Core.List.{[]};
 ghost use Rattle.paper.specs.Calls.{topoIsConvex, topoIsNodeConvex};
-ghost use Rattle.paper.specs.Exports.{export, inReply};
+ghost use Rattle.paper.specs.Exports.{export, heardOrder, inReply};
 ghost use Rattle.paper.specs.Promise.{KnownPorts, KnownSteps, OrderPortsPromise, OrderPromise, Trusted};
 ghost use Rattle.paper.specs.Words.{wordsFrom};
-ghost use Rattle.varddohas.specs.Heard.{heardOrder};
 use byte_calls::topo_convex_checker::is_convex;
 use byte_calls::topo_convex_checker::is_node_convex;
 use crossing::area_room;

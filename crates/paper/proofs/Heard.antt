@@ -1,5 +1,5 @@
 -- What a host hears of a check is what the export told, and what the promises of demand 3 say of the numbers that it then has in hand.
--- Rests on paper's Exports and Promise.
+-- Rests on Exports and Promise.
 use Prim.Native.Nat.{ℕ}
 use mathlib.Core.Path.{_≡_, refl, sym, ap, _∙_, subst}
 use mathlib.Core.Logic.{_↔_}
@@ -8,13 +8,12 @@ use mathlib.Core.List.{List, [], _∷_}
 use lib.Dec.{eqb}
 use lib.ListN.{getD}
 use borrow.Author.Tests.{eqb-true}
 use Rattle.paper.specs.Intervals.{Reply, Yes, No}
 use Rattle.paper.specs.Refusals.{Answer, refused, answered}
-use Rattle.paper.specs.Exports.{Told, tell, inLineReply, inReply}
+use Rattle.paper.specs.Exports.{Told, tell, inLineReply, inReply, heardLine, heardOrder}
 use Rattle.paper.specs.Plain.{Convex, Ahead, Number}
 use Rattle.paper.specs.Promise.{LinePromise, OrderPromise}
-use Rattle.varddohas.specs.Heard.{heardLine, heardOrder}
 use Rattle.paper.proofs.Promise.{no-yes, never-answered, same-answer}
 
 -- ---- hearing what was told gives the answer back
 
