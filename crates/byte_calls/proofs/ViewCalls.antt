@@ -9,8 +9,8 @@ use lib.ListN.{getD}
 use Rattle.paper.specs.Map.{N, L, P, portNode}
 use Rattle.paper.specs.Area.{Section, start, wordOf}
 use Rattle.paper.specs.Ports.{firstLine, lineCountAt}
-use Rattle.paper.specs.Refusals.{Ruling, passed, Answer, answer, answered, refused, decide, rule14}
-use Rattle.paper.specs.Calls.{Left, call, opening, areaAfter}
+use Rattle.paper.specs.Refusals.{Ruling, passed, Answer, answer, answered, refused, decide}
+use Rattle.paper.specs.Calls.{Left, call, opening, areaAfter, portRule}
 use Rattle.paper.specs.Exports.{viewStart, viewAt}
 use Rattle.lines_theory.proofs.Written.{start-is}
 use Rattle.refusals.specs.Said.{ruled, ruling, refusedBy}
@@ -30,7 +30,7 @@ opened b a o said = record { said = said; left = refl }
 
 module _ {b a : List ℕ} {o : Opened} (known : OpenLeft b a o (areaAfter b a)) (q : ℕ) where
   rules : List Ruling
-  rules = rule14 b (q ∷ []) ∷ []
+  rules = portRule b q
 
   view : ℕ × ℕ
   view = (viewStart b a q, lineCountAt b q)

@@ -35,7 +35,7 @@ use Rattle.paper.specs.Refusals.{
   rule14,
   wholeRecords,
 }
-use Rattle.paper.specs.Calls.{Written, call, callInto, lineRules, said, wordsOf, needed, isNodeConvex, isConvexByIntervals, getIntervalsFromNodes, tryExtendIntervals, nodesInIntervals, linesAtPort, viewOfPort, opening, areaAfter}
+use Rattle.paper.specs.Calls.{Written, call, callInto, lineRules, said, wordsOf, needed, isNodeConvex, isConvexByIntervals, getIntervalsFromNodes, tryExtendIntervals, nodesInIntervals, portRule, linesAtPort, viewOfPort, opening, areaAfter}
 use Rattle.refusals.specs.Said.{ruled, ruling, refusedBy}
 use Rattle.refusals.specs.declared.Refusal.{Refusal}
 use Rattle.opening.specs.Opened.{OpenLeft, openedSaid, scratchZeroed}
@@ -141,14 +141,14 @@ module _ {b a : List ℕ} {o : Opened} {m : List ℕ} (known : OpenLeft b a o m)
   pub port-unknown : p ≤ q → record { answer = refused 14 0; area = m } ≡ linesAtPort b a q
   unfolding linesAtPort answer decide
   port-unknown h =
-      answered-still known ready (rule14 b (q ∷ []) ∷ []) (firstLine b q, lineCountAt b q)
+      answered-still known ready (portRule b q) (firstLine b q, lineCountAt b q)
       (ap (λ (u : Ruling). answer (decide (u ∷ [])) (firstLine b q, lineCountAt b q)) (unknown-port b (usable-before known ready .read .ports) q h))
 
   pub port-answered : q < p → {first count : ℕ} → first ≡ firstLine b q → count ≡ lineCountAt b q
       → record { answer = answered (first, count); area = m } ≡ linesAtPort b a q
   unfolding linesAtPort answer decide
   port-answered h e f =
-      answered-still known ready (rule14 b (q ∷ []) ∷ []) (firstLine b q, lineCountAt b q) (
+      answered-still known ready (portRule b q) (firstLine b q, lineCountAt b q) (
       ap₂ (λ (x y : ℕ). answered (x, y)) e f
       ∙ ap (λ (u : Ruling). answer (decide (u ∷ [])) (firstLine b q, lineCountAt b q)) (known-port b (usable-before known ready .read .ports) q h)
       )
@@ -160,7 +160,7 @@ module _ (b a : List ℕ) (o : Opened) (said : openedSaid o ≡ answer (decide (
 
   pub view-refused : ruling (openedSaid o) ≢ passed → [] ≡ viewOfPort b a q
   unfolding viewOfPort onRefusal
-  view-refused out = nothing (decide (opening b a ++ (rule14 b (q ∷ []) ∷ []))) (refuses opened out (rule14 b (q ∷ []) ∷ []))
+  view-refused out = nothing (decide (opening b a ++ portRule b q)) (refuses opened out (portRule b q))
     where
       nothing : (u : Ruling) → u ≢ passed → [] ≡ onRefusal u [] (linesAt b a q)
       nothing passed ne = absurd (ne refl)
@@ -170,9 +170,9 @@ module _ (b a : List ℕ) (o : Opened) (said : openedSaid o ≡ answer (decide (
     pub view-usable : Usable b a n l p
     view-usable = usable-before opened ready
 
-    then-port : decide (opening b a ++ (rule14 b (q ∷ []) ∷ [])) ≡ rule14 b (q ∷ [])
+    then-port : decide (opening b a ++ portRule b q) ≡ rule14 b (q ∷ [])
     unfolding decide
-    then-port = then-decides (opening b a) (rule14 b (q ∷ []) ∷ []) (all-passed opened ready) ∙ alone (rule14 b (q ∷ []))
+    then-port = then-decides (opening b a) (portRule b q) (all-passed opened ready) ∙ alone (rule14 b (q ∷ []))
       where
         alone : (u : Ruling) → decide (u ∷ []) ≡ u
         alone passed = refl

@@ -34,7 +34,7 @@ use Rattle.paper.specs.Refusals.{
   rule7,
   rule14,
 }
-use Rattle.paper.specs.Calls.{untouched, unprepared, opening, areaAfter, call, prepare, linesAtPort}
+use Rattle.paper.specs.Calls.{untouched, unprepared, opening, areaAfter, call, prepare, portRule, linesAtPort}
 use Rattle.paper.specs.Exports.{viewStart, viewAt}
 use Rattle.paper.proofs.Area.{W-most}
 use Rattle.lines_theory.proofs.Prepared.{written-long}
@@ -226,10 +226,10 @@ module _ (b a : List ℕ) where
 
   -- ---- the view
 
-  view-read : (p : ℕ) → passed ≡ decide (opening b a ++ (rule14 b (p ∷ []) ∷ [])) → viewStart b a p ≡ viewStart b (cut a) p
+  view-read : (p : ℕ) → passed ≡ decide (opening b a ++ portRule b p) → viewStart b a p ≡ viewStart b (cut a) p
   unfolding viewStart wordOf opening size
   view-read p e =
-      let asked = both-passed (opening b a) (rule14 b (p ∷ []) ∷ []) e in
+      let asked = both-passed (opening b a) (portRule b p) e in
       let opened = both-passed (untouched b a) (rule45 b ∷ rule7 b a ∷ []) (asked .0) in
       let known = port-passed b p (sym (head-passed (rule14 b (p ∷ [])) [] (asked .1) .0)) in
       ap (λ (w : ℕ). start b Section.linesOfNodes + (w + firstLine b p))
@@ -238,14 +238,14 @@ module _ (b a : List ℕ) where
   pub view-cut : (p : ℕ) → viewAt b a p ≡ viewAt b (cut a) p
   unfolding viewAt linesAtPort call answer
   view-cut p =
-      go (decide (opening b a ++ (rule14 b (p ∷ []) ∷ []))) (view-read p)
+      go (decide (opening b a ++ portRule b p)) (view-read p)
       ∙ ap (λ (u : Ruling). answer {A = ℕ × ℕ} u (viewStart b (cut a) p, lineCountAt b p)) decided
     where
-      decided : decide (opening b a ++ (rule14 b (p ∷ []) ∷ [])) ≡ decide (opening b (cut a) ++ (rule14 b (p ∷ []) ∷ []))
+      decided : decide (opening b a ++ portRule b p) ≡ decide (opening b (cut a) ++ portRule b p)
       decided =
-          sym (ruling-answer (decide (opening b a ++ (rule14 b (p ∷ []) ∷ []))) (firstLine b p, lineCountAt b p))
+          sym (ruling-answer (decide (opening b a ++ portRule b p)) (firstLine b p, lineCountAt b p))
           ∙ ap ruling (outcomes-cut .linesAtOne p)
-          ∙ ruling-answer (decide (opening b (cut a) ++ (rule14 b (p ∷ []) ∷ []))) (firstLine b p, lineCountAt b p)
+          ∙ ruling-answer (decide (opening b (cut a) ++ portRule b p)) (firstLine b p, lineCountAt b p)
 
       go : (u : Ruling) → (passed ≡ u → viewStart b a p ≡ viewStart b (cut a) p)
           → answer {A = ℕ × ℕ} u (viewStart b a p, lineCountAt b p) ≡ answer u (viewStart b (cut a) p, lineCountAt b p)

@@ -24,33 +24,35 @@ pub prepared-holds : (b a : List ℕ) → prepared b a ≡ holding b (tables b) 
 unfolding prepared written holding laid
 prepared-holds b a = refl
 
--- a section stands in the list of sections where it says
-at-before : (s : Section) → getD sections (before s) lineCount ≡ s
-at-before Section.lineCount = refl
-at-before Section.order = refl
-at-before Section.positions = refl
-at-before Section.nodeStarts = refl
-at-before Section.linesOfNodes = refl
-at-before Section.lineStarts = refl
-at-before Section.nodesOfLines = refl
-at-before Section.scratch = refl
+-- a section stands in the list of sections behind those before it
+abbrev placeOf : Section → ℕ
+placeOf s = length (before s sections)
 
-before-eight : (s : Section) → before s < length sections
-before-eight Section.lineCount = omega arith
-before-eight Section.order = omega arith
-before-eight Section.positions = omega arith
-before-eight Section.nodeStarts = omega arith
-before-eight Section.linesOfNodes = omega arith
-before-eight Section.lineStarts = omega arith
-before-eight Section.nodesOfLines = omega arith
-before-eight Section.scratch = omega arith
+record Stands (s : Section) : Type 0 where
+  inside : placeOf s < length sections
+  there : getD sections (placeOf s) lineCount ≡ s
+  behind : before s sections ≡ take (placeOf s) sections
+
+stands : (s : Section) → Stands s
+stands Section.lineCount = record { inside = omega arith; there = refl; behind = refl }
+stands Section.order = record { inside = omega arith; there = refl; behind = refl }
+stands Section.positions = record { inside = omega arith; there = refl; behind = refl }
+stands Section.nodeStarts = record { inside = omega arith; there = refl; behind = refl }
+stands Section.linesOfNodes = record { inside = omega arith; there = refl; behind = refl }
+stands Section.lineStarts = record { inside = omega arith; there = refl; behind = refl }
+stands Section.nodesOfLines = record { inside = omega arith; there = refl; behind = refl }
+stands Section.scratch = record { inside = omega arith; there = refl; behind = refl }
 
 -- .. and ends within the area
 pub section-room : (b : List ℕ) (s : Section) → start b s + size b s ≤ W b
 unfolding start W
 section-room b s =
-    subst (λ (r : Section). sum (map (size b) (take (before s) sections)) + size b r ≤ sum (map (size b) sections)) (at-before s)
-    (laid-room (size b) sections (before s) lineCount (before-eight s))
+    omega (
+      arith,
+      laid-room (size b) sections (placeOf s) lineCount (stands s .inside),
+      ap (λ (rs : List Section). sum (map (size b) rs)) (stands s .behind),
+      ap (size b) (stands s .there),
+    )
 
 -- every word of the area is a word of one section
 pub record InSection (b : List ℕ) (x : ℕ) : Type 0 where
@@ -125,8 +127,9 @@ module _ {b : List ℕ} {t : Tables} (sized : Sized b t) where
   laid-at : (s : Section) (i : ℕ) → i < size b s → getD (laid b t) (start b s + i) 0 ≡ getD (contents t s) i 0
   unfolding laid start
   laid-at s i h =
-      getD-laid filled (size b) full sections (before s) lineCount i (before-eight s) (rw (at-before s) h)
-      ∙ ap (λ (r : Section). getD (filled r) i 0) (at-before s)
+      ap (λ (rs : List Section). getD (laid b t) (sum (map (size b) rs) + i) 0) (stands s .behind)
+      ∙ getD-laid filled (size b) full sections (placeOf s) lineCount i (stands s .inside) (rw (stands s .there) h)
+      ∙ ap (λ (r : Section). getD (filled r) i 0) (stands s .there)
       ∙ getD-pad (size b s) (contents t s) i
     where
       filled : Section → List ℕ

@@ -12,7 +12,9 @@ use Rattle.paper.specs.Lines.{Tables, tables}
 -- nodes of lines (2L+N), scratch (4N+4L+2P+4)"
 pub data Section : Type 0 where
   lineCount order positions nodeStarts linesOfNodes lineStarts nodesOfLines scratch : Section
+  deriving Discrete as sameSection
 
+-- .. one after the other
 abbrev pub sections : List Section
 sections = lineCount ∷ order ∷ positions ∷ nodeStarts ∷ linesOfNodes ∷ lineStarts ∷ nodesOfLines ∷ scratch ∷ []
 
@@ -26,19 +28,13 @@ size b lineStarts = L b + N b + 1
 size b nodesOfLines = 2 * L b + N b
 size b scratch = 4 * N b + 4 * L b + 2 * P b + 4
 
--- how many sections stand before one
-abbrev pub before : Section → ℕ
-before lineCount = 0
-before order = 1
-before positions = 2
-before nodeStarts = 3
-before linesOfNodes = 4
-before lineStarts = 5
-before nodesOfLines = 6
-before scratch = 7
+-- the sections before one, in a list of sections
+abbrev pub before : Section → List Section → List Section
+before s [] = []
+before s (r ∷ rs) = elim (sameSection r s) [ yes e ↦ [] | no e ↦ r ∷ before s rs ]
 
 unfoldable pub start : List ℕ → Section → ℕ
-start b s = sum (map (size b) (take (before s) sections))
+start b s = sum (map (size b) (before s sections))
 
 -- "Lent 16-bit words, W = 7+10N+9L+2P": the eight sections together
 unfoldable pub W : List ℕ → ℕ

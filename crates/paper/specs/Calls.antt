@@ -163,10 +163,14 @@ nodesInIntervals b a words n buffer =
 
 -- ---- ports
 
+-- "A single node or port is entry 0."
+abbrev pub portRule : List ℕ → ℕ → List Ruling
+portRule b p = rule14 b (p ∷ []) ∷ []
+
 -- "Lines at a port": "the first one's place in that list, from 0, and the count"
 unfoldable pub linesAtPort : List ℕ → List ℕ → ℕ → Left (ℕ × ℕ)
-linesAtPort b a p = call b a (rule14 b (p ∷ []) ∷ []) (firstLine b p, lineCountAt b p)
+linesAtPort b a p = call b a (portRule b p) (firstLine b p, lineCountAt b p)
 
 -- "a second call, which writes nothing, gives the lines themselves as a part of the lent area, empty on refusal"
 unfoldable pub viewOfPort : List ℕ → List ℕ → ℕ → List ℕ
-viewOfPort b a p = onRefusal (decide (opening b a ++ (rule14 b (p ∷ []) ∷ []))) [] (linesAt b a p)
+viewOfPort b a p = onRefusal (decide (opening b a ++ portRule b p)) [] (linesAt b a p)

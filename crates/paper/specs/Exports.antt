@@ -9,8 +9,8 @@ use Rattle.paper.specs.Map.{portNode}
 use Rattle.paper.specs.Area.{Section, start, wordOf}
 use Rattle.paper.specs.Intervals.{Reply, Yes, No}
 use Rattle.paper.specs.Ports.{firstLine, lineCountAt}
-use Rattle.paper.specs.Refusals.{Answer, refused, answered, answer, decide, rule14}
-use Rattle.paper.specs.Calls.{Left, LeftWith, Written, wrote, nothing, opening}
+use Rattle.paper.specs.Refusals.{Answer, refused, answered, answer, decide}
+use Rattle.paper.specs.Calls.{Left, LeftWith, Written, wrote, nothing, opening, portRule}
 use Rattle.paper.specs.Words.{putWords}
 
 -- ---- an answer in numbers: 1 is an answer or yes; 2 is no, not contiguous or not extendable; with its values
@@ -92,4 +92,4 @@ viewStart b a p = start b Section.linesOfNodes + (wordOf b a Section.nodeStarts 
 
 -- that word, and how many there are
 unfoldable pub viewAt : List ℕ → List ℕ → ℕ → Answer (ℕ × ℕ)
-viewAt b a p = answer (decide (opening b a ++ (rule14 b (p ∷ []) ∷ []))) (viewStart b a p, lineCountAt b p)
+viewAt b a p = answer (decide (opening b a ++ portRule b p)) (viewStart b a p, lineCountAt b p)

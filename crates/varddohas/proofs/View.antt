@@ -16,7 +16,7 @@ use Rattle.paper.specs.Area.{Section, start, wordOf, linesOf}
 use Rattle.paper.specs.Area as area
 use Rattle.paper.specs.Ports.{firstLine, lineCountAt, linesAt}
 use Rattle.paper.specs.Refusals.{Ruling, passed, refusal, refuse, earliest, Answer, refused, answered, answer, onRefusal, decide, rule14}
-use Rattle.paper.specs.Calls.{opening, viewOfPort}
+use Rattle.paper.specs.Calls.{opening, portRule, viewOfPort}
 use Rattle.paper.specs.Exports.{viewStart, viewAt}
 use Rattle.refusals.proofs.Rulings.{no-refusal, both-passed, head-passed}
 use Rattle.tables.specs.Usable.{Usable}
@@ -55,9 +55,9 @@ part-part a from to at (suc n) h =
     ap (take (suc n)) (drop-drop at from (take to a)) ∙ part-within a to (from + at) (suc n) (omega (arith, length-drop from (take to a)))
 
 module _ (b a : List ℕ) (p : ℕ) where
-  module _ (e : passed ≡ decide (opening b a ++ (rule14 b (p ∷ []) ∷ []))) where
-    both : (passed ≡ decide (opening b a)) × (passed ≡ decide (rule14 b (p ∷ []) ∷ []))
-    both = both-passed (opening b a) (rule14 b (p ∷ []) ∷ []) e
+  module _ (e : passed ≡ decide (opening b a ++ portRule b p)) where
+    both : (passed ≡ decide (opening b a)) × (passed ≡ decide (portRule b p))
+    both = both-passed (opening b a) (portRule b p) e
 
     usable : Usable b a (N b) (L b) (P b)
     usable = view-usable b a (Ready (N b) (L b) (P b)) (passed-said (both .0) (N b, L b, P b)) p refl
@@ -79,9 +79,9 @@ module _ (b a : List ℕ) (p : ℕ) where
 
   pub view-there : named a (viewAt b a p) ≡ viewOfPort b a p
   unfolding viewAt viewOfPort answer onRefusal
-  view-there = go (decide (opening b a ++ (rule14 b (p ∷ []) ∷ []))) refl
+  view-there = go (decide (opening b a ++ portRule b p)) refl
     where
-      go : (u : Ruling) → decide (opening b a ++ (rule14 b (p ∷ []) ∷ [])) ≡ u
+      go : (u : Ruling) → decide (opening b a ++ portRule b p) ≡ u
           → named a (answer u (viewStart b a p, lineCountAt b p)) ≡ onRefusal u [] (linesAt b a p)
       go passed e = there (sym e)
       go (refusal n i) e = refl
