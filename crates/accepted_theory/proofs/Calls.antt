@@ -1,6 +1,7 @@
 -- "Preparing sets unused words and scratch to 0; accepting doesn't read them", and no call does: two areas with the same words in use give every
 -- call the same outcome. Rests on Alike, Refusals and on the questions' own files (Intervals, Walk, OrderCheck, Records).
-use Prim.Native.Nat.{ℕ, _≤_}
+use Prim.Native.Nat.{ℕ, _+_, _≤_}
+use native.Mathlib.Omega.{arith}
 use mathlib.Core.Path.{_≡_, refl, sym, ap, _∙_}
 use mathlib.Core.Bool.{Bool, not, cond}
 use mathlib.Core.List.{List, [], _∷_, _++_}
@@ -8,13 +9,14 @@ use lib.ListN.{length}
 use lib.Seq.{sets}
 use borrow.Author.Tests.{le-ltb}
 use Rattle.lists.specs.Found.{placed}
+use Rattle.paper.specs.Map.{portNode}
 use Rattle.paper.specs.Lines.{tables}
-use Rattle.paper.specs.Area.{W}
+use Rattle.paper.specs.Area.{Section, start, W, wordOf}
 use Rattle.paper.specs.Intervals.{No, Interval, Records, intervals}
 use Rattle.paper.specs.Walk.{walk, lineCheck}
 use Rattle.paper.specs.OrderCheck.{orderCheck}
 use Rattle.paper.specs.Records.{recordsIn, extend, nodesIn}
-use Rattle.paper.specs.Ports.{firstLine, lineCountAt, linesAt, conflict}
+use Rattle.paper.specs.Ports.{firstLine, lineCountAt, linesAt, viewStart, conflict}
 use Rattle.paper.specs.Refusals.{Ruling, passed, refuse, rule1, rule2, rule3, rule7, rule9, rule10, rule11, rule12, rule13, wholeRecords, decide, answer}
 use Rattle.paper.specs.Calls.{
   untouched,
@@ -38,6 +40,7 @@ use Rattle.paper.specs.Calls.{
   tryExtendIntervals,
   nodesInIntervals,
   linesAtPort,
+  viewAt,
   viewOfPort,
 }
 use Rattle.order_theory.specs.Sound.{Sound}
@@ -51,7 +54,8 @@ use Rattle.accepted_theory.proofs.Intervals.{intervals-same}
 use Rattle.accepted_theory.proofs.Walk.{walk-same, lineCheck-same}
 use Rattle.accepted_theory.proofs.OrderCheck.{orderCheck-same}
 use Rattle.accepted_theory.proofs.Records.{extend-same, nodesIn-same, rule12-same, rule13-same, linesAt-same}
-use Rattle.accepted_theory.proofs.Refusals.{tables-passed, nodes-passed, records-passed, port-passed}
+use Rattle.accepted_theory.proofs.Ports.{port-passed, view-lines}
+use Rattle.accepted_theory.proofs.Refusals.{tables-passed, nodes-passed, records-passed}
 use Rattle.accepted_theory.proofs.Alike.{Alike, in-the-end, next, same-answer, same-kept}
 
 -- room for W words
@@ -167,13 +171,22 @@ module _ {b a c : List ℕ} (same : SameInUse b a c) (room-a : W b ≤ length a)
   lines-found p =
       same-answer (opened {x = lineCountAt b p} {y = lineCountAt b p} (λ t s. next refl (λ e14. in-the-end refl))) (λ n. (firstLine b p, n))
 
+  lines-placed : (p : ℕ) → viewAt b a p ≡ viewAt b c p
+  unfolding viewAt viewStart
+  lines-placed p =
+      same-answer
+      (opened {x = wordOf b a Section.nodeStarts (portNode b p)} {y = wordOf b c Section.nodeStarts (portNode b p)}
+      (λ t s. next refl (λ e14. in-the-end (same .nodeStarts (portNode b p) (omega (arith, port-passed b p e14))))))
+      (λ w. (start b Section.linesOfNodes + (w + firstLine b p), lineCountAt b p))
+
   lines-viewed : (p : ℕ) → viewOfPort b a p ≡ viewOfPort b c p
-  unfolding viewOfPort
   lines-viewed p =
-      same-kept
+      view-lines b a p
+      ∙ same-kept
       (opened {x = linesAt b a p} {y = linesAt b c p} (λ t s. next refl (λ e14. in-the-end (linesAt-same t p (port-passed b p e14)))))
       []
       (λ ls. ls)
+      ∙ sym (view-lines b c p)
 
   -- preparing reads no word of the area
   prepared-same : SameAnswer (prepare b a) (prepare b c)
@@ -194,5 +207,6 @@ module _ {b a c : List ℕ} (same : SameInUse b a c) (room-a : W b ≤ length a)
         extending = extension-written;
         nodesInRecords = nodes-written;
         linesAtOne = lines-found;
+        viewPlace = lines-placed;
         view = lines-viewed;
       }

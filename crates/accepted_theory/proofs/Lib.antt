@@ -11,3 +11,4 @@ pub mod Alike
 pub mod Calls
 pub mod Counts
 pub mod Within
+pub mod Ports

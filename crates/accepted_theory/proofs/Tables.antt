@@ -19,7 +19,7 @@ use Rattle.accepted_theory.proofs.Starts.{start-most}
 -- ---- parts of a list
 
 -- a word of a part
-slice-word : (a : List ℕ) (o f t i : ℕ) → f + i < t → getD (slice (o + f) (o + t) a) i 0 ≡ getD a (o + (f + i)) 0
+pub slice-word : (a : List ℕ) (o f t i : ℕ) → f + i < t → getD (slice (o + f) (o + t) a) i 0 ≡ getD a (o + (f + i)) 0
 slice-word a o f t i l =
     getD-drop (o + f) (take (o + t) a) i 0 ∙ getD-take (o + t) a (o + f + i) 0 (omega arith) ∙ ap (λ (j : ℕ). getD a j 0) (assoc o f i)
   where
@@ -48,7 +48,7 @@ module _ (b : List ℕ) where
   unfolding start W size
   order-room = omega arith
 
-  lines-room : start b Section.linesOfNodes + (2 * L b + N b) ≤ W b
+  pub lines-room : start b Section.linesOfNodes + (2 * L b + N b) ≤ W b
   unfolding start W size
   lines-room = omega arith
 
@@ -60,7 +60,7 @@ module _ (b : List ℕ) where
 
 module _ {b a : List ℕ} (acc : Accepted b a) where
   -- a node's and a line's entries end in the words in use
-  lines-end : (v : ℕ) → v < N b → wordOf b a Section.nodeStarts (suc v) ≤ L b + K b a
+  pub lines-end : (v : ℕ) → v < N b → wordOf b a Section.nodeStarts (suc v) ≤ L b + K b a
   lines-end v h = omega (arith, start-most (acc .nodeStarts) (suc v) h)
 
   nodes-end : (l : ℕ) → l < K b a → wordOf b a Section.lineStarts (suc l) ≤ L b + K b a

@@ -16,6 +16,7 @@ use Rattle.paper.specs.Calls.{
   tryExtendIntervals,
   nodesInIntervals,
   linesAtPort,
+  viewAt,
   viewOfPort,
 }
 
@@ -37,4 +38,5 @@ pub record SameOutcomes (b a c : List ℕ) : Type 0 where
   pub extending : (words : List ℕ) (n v : ℕ) → SameWritten (tryExtendIntervals b a words n v) (tryExtendIntervals b c words n v)
   pub nodesInRecords : (words : List ℕ) (n : ℕ) (buffer : List ℕ) → SameWritten (nodesInIntervals b a words n buffer) (nodesInIntervals b c words n buffer)
   pub linesAtOne : (p : ℕ) → SameAnswer (linesAtPort b a p) (linesAtPort b c p)
+  pub viewPlace : (p : ℕ) → viewAt b a p ≡ viewAt b c p
   pub view : (p : ℕ) → viewOfPort b a p ≡ viewOfPort b c p

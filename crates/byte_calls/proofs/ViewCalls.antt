@@ -1,26 +1,18 @@
 -- Where a port's lines stand in the area, from the call's opening: a refusal passed up, 14, or the word that they start at and their count.
--- Rests on convex's Calling and LineCalls, and lines_theory's Written (where sections start).
-use Prim.Native.Nat.{ℕ, _+_, _*_, _≤_, _<_}
-use native.Mathlib.Omega.{arith}
+-- Rests on convex's Calling and LineCalls.
+use Prim.Native.Nat.{ℕ, _≤_, _<_}
 use mathlib.Core.Path.{_≡_, refl, ap, ap₂, _∙_}
 use mathlib.Core.Logic.{_≢_}
 use mathlib.Core.List.{List, [], _∷_}
-use lib.ListN.{getD}
-use Rattle.paper.specs.Map.{N, L, P, portNode}
-use Rattle.paper.specs.Area.{Section, start, wordOf}
-use Rattle.paper.specs.Ports.{firstLine, lineCountAt}
+use Rattle.paper.specs.Map.{N, L, P}
+use Rattle.paper.specs.Ports.{lineCountAt, viewStart}
 use Rattle.paper.specs.Refusals.{Ruling, passed, Answer, answer, answered, refused, decide}
-use Rattle.paper.specs.Calls.{Left, call, opening, areaAfter, portRule}
-use Rattle.paper.specs.Exports.{viewStart, viewAt}
-use Rattle.lines_theory.proofs.Written.{start-is}
+use Rattle.paper.specs.Calls.{Left, call, opening, areaAfter, portRule, viewAt}
 use Rattle.refusals.specs.Said.{ruled, ruling, refusedBy}
 use Rattle.refusals.specs.declared.Refusal.{Refusal}
 use Rattle.opening.specs.Opened.{OpenLeft, openedSaid}
 use Rattle.opening.specs.declared.Opened.{Opened}
 use Rattle.opening.specs.declared.Opened.the-variants.{Ready}
-use Rattle.tables.specs.Usable.{Usable, nodeStartsAt, linesAt}
-use Rattle.tables.proofs.Words.{count-few, lines-end, lines-rise}
-use Rattle.port_lines.proofs.PortLines.{node-known, lines-few}
 use Rattle.convex.proofs.Calling.{refused-call, usable-before, answered-still}
 use Rattle.convex.proofs.LineCalls.{unknown-port, known-port}
 
@@ -61,33 +53,3 @@ module _ {b a : List ℕ} {o : Opened} (known : OpenLeft b a o (areaAfter b a)) 
         ∙ ap (λ (u : Ruling). answer (decide (u ∷ [])) view) (known-port b ports q h)
         )
         )
-
--- ---- the word that they start at
-
-module _ {b a : List ℕ} {n l p : ℕ} (usable : Usable b a n l p) (port : ℕ) {v w f : ℕ} (node : v ≡ portNode b port) (word : w ≡ getD a (nodeStartsAt n + v) 0)
-    (first : f ≡ firstLine b port) where
-  pub start-so : linesAt n + w + f ≡ viewStart b a port
-  unfolding viewStart wordOf
-  start-so =
-      omega (
-        arith,
-        start-is b Section.linesOfNodes,
-        usable .read .nodes,
-        word ∙ ap (λ (j : ℕ). getD a j 0) there,
-        first,
-      )
-    where
-      there : nodeStartsAt n + v ≡ start b Section.nodeStarts + portNode b port
-      there = omega (arith, start-is b Section.nodeStarts, usable .read .nodes, node)
-
-  -- .. and how far behind its section's first word
-  pub start-few : port < p → {c : ℕ} → c ≡ lineCountAt b port → w + f ≤ 4 * l + 2 * n
-  start-few h count =
-      omega (
-        arith,
-        lines-few usable h node first count,
-        lines-rise usable v (node-known usable h node),
-        lines-end usable v (node-known usable h node),
-        count-few usable,
-        word,
-      )

@@ -7,11 +7,11 @@ ghost use Rattle.paper.specs.Calls.{
   getIntervalsFromNodes,
   tryExtendIntervals,
   nodesInIntervals,
+  viewAt,
 };
 ghost use Rattle.paper.specs.Words.{wordsFrom};
 ghost use Rattle.line_checker.specs.Said.{lineSaid, intervalsSaid, extendSaid, nodesSaid};
 ghost use Rattle.convex.specs.Said.{portLinesSaid};
-ghost use Rattle.paper.specs.Exports.{viewAt};
 ghost use Rattle.byte_calls.specs.Buffered.{buffered};
 use byte_lists::check_list_bytes;
 use byte_lists::intervals_of_list_bytes;
@@ -29,11 +29,9 @@ use opening::ends::clear_scratch;
 use opening::ends::refusal;
 use opening::open;
 use opening::open_shared;
-use port_lines::first_line;
 use port_lines::line_count;
+use port_lines::view_start;
 use refusals::Refusal;
-use stepmap::ports::port_node;
-use words::section::word_at;
 
 // Line check of a list in bytes.
 pub fn is_node_convex(map: &[u8], area: &mut [u16], list: &[u8]) -> LineAnswer
@@ -193,9 +191,7 @@ pub fn view_at_port(map: &[u8], area: &[u16], port: usize) -> PortLines
     if ports <= port {
         return PortLines::Refused(Refusal::UnknownPort(0));
     }
-    let v = port_node(map, nodes, port);
-    let first = first_line(map, nodes, links, ports, port);
+    let offset = view_start(map, nodes, links, ports, area, port);
     let count = line_count(map, nodes, links, ports, port);
-    let offset = 2 + 3 * nodes + word_at(area, 1 + 2 * nodes, v) + first;
     PortLines::At(offset, count)
 }

@@ -1,6 +1,6 @@
 -- Each call of the line checker from its opening: a refusal passed up, or what the question answered on the opened area.
 -- Rests on Calling.
-use Prim.Native.Nat.{ℕ, _≤_, _<_}
+use Prim.Native.Nat.{ℕ, _+_, _≤_, _<_}
 use native.Mathlib.Omega.{arith}
 use mathlib.Core.Path.{_≡_, refl, sym, ap, ap₂, _∙_}
 use mathlib.Core.Logic.{_≢_}
@@ -8,12 +8,13 @@ use mathlib.Core.Bool.{Bool}
 use mathlib.Core.List.{List, [], _∷_, _++_}
 use borrow.Author.Tests.{le-leb, lt-leb}
 use lib.ListN.{length}
+use lib.Seq.{slice}
 use Rattle.lists.specs.Found.{placed}
 use Rattle.paper.specs.Map.{N, L, P}
 use Rattle.paper.specs.Intervals.{Reply, intervals}
 use Rattle.paper.specs.Walk.{walk, lineCheck}
 use Rattle.paper.specs.Records.{recordsIn, extend, nodesIn}
-use Rattle.paper.specs.Ports.{firstLine, lineCountAt, linesAt}
+use Rattle.paper.specs.Ports.{firstLine, lineCountAt, viewStart}
 use Rattle.paper.specs.Refusals.{
   Ruling,
   passed,
@@ -24,7 +25,6 @@ use Rattle.paper.specs.Refusals.{
   answer,
   answered,
   refused,
-  onRefusal,
   decide,
   rule8,
   rule9,
@@ -35,7 +35,7 @@ use Rattle.paper.specs.Refusals.{
   rule14,
   wholeRecords,
 }
-use Rattle.paper.specs.Calls.{Written, call, callInto, lineRules, said, wordsOf, needed, isNodeConvex, isConvexByIntervals, getIntervalsFromNodes, tryExtendIntervals, nodesInIntervals, portRule, linesAtPort, viewOfPort, opening, areaAfter}
+use Rattle.paper.specs.Calls.{Written, call, callInto, lineRules, said, wordsOf, needed, isNodeConvex, isConvexByIntervals, getIntervalsFromNodes, tryExtendIntervals, nodesInIntervals, portRule, linesAtPort, viewAt, partAt, viewOfPort, opening, areaAfter}
 use Rattle.refusals.specs.Said.{ruled, ruling, refusedBy}
 use Rattle.refusals.specs.declared.Refusal.{Refusal}
 use Rattle.opening.specs.Opened.{OpenLeft, openedSaid, scratchZeroed}
@@ -158,11 +158,12 @@ module _ (b a : List ℕ) (o : Opened) (said : openedSaid o ≡ answer (decide (
   opened : OpenLeft b a o (areaAfter b a)
   opened = record { said = said; left = refl }
 
-  pub view-refused : ruling (openedSaid o) ≢ passed → [] ≡ viewOfPort b a q
-  unfolding viewOfPort onRefusal
+  -- which part of the area it is: one of no words on a refusal
+  pub view-refused : ruling (openedSaid o) ≢ passed → partAt (viewAt b a q) ≡ (0, 0)
+  unfolding viewAt partAt answer
   view-refused out = nothing (decide (opening b a ++ portRule b q)) (refuses opened out (portRule b q))
     where
-      nothing : (u : Ruling) → u ≢ passed → [] ≡ onRefusal u [] (linesAt b a q)
+      nothing : (u : Ruling) → u ≢ passed → partAt (answer u (viewStart b a q, lineCountAt b q)) ≡ (0, 0)
       nothing passed ne = absurd (ne refl)
       nothing (refusal i v) ne = refl
 
@@ -178,10 +179,23 @@ module _ (b a : List ℕ) (o : Opened) (said : openedSaid o ≡ answer (decide (
         alone passed = refl
         alone (refusal i v) = refl
 
-    pub view-unknown : p ≤ q → [] ≡ viewOfPort b a q
-    unfolding viewOfPort onRefusal
-    view-unknown h = ap (λ (u : Ruling). onRefusal u [] (linesAt b a q)) (unknown-port b (view-usable .read .ports) q h ∙ sym then-port)
+    pub view-unknown : p ≤ q → partAt (viewAt b a q) ≡ (0, 0)
+    unfolding viewAt partAt answer
+    view-unknown h =
+        ap (λ (u : Ruling). partAt (answer u (viewStart b a q, lineCountAt b q)))
+        (then-port ∙ sym (unknown-port b (view-usable .read .ports) q h))
 
-    pub view-answered : q < p → {lines : List ℕ} → lines ≡ linesAt b a q → lines ≡ viewOfPort b a q
-    unfolding viewOfPort onRefusal
-    view-answered h e = e ∙ ap (λ (u : Ruling). onRefusal u [] (linesAt b a q)) (known-port b (view-usable .read .ports) q h ∙ sym then-port)
+    pub view-answered : q < p → partAt (viewAt b a q) ≡ (viewStart b a q, lineCountAt b q)
+    unfolding viewAt partAt answer
+    view-answered h =
+        ap (λ (u : Ruling). partAt (answer u (viewStart b a q, lineCountAt b q)))
+        (then-port ∙ sym (known-port b (view-usable .read .ports) q h))
+
+-- .. so its words and its place are known
+module _ (b a : List ℕ) (q : ℕ) {f c : ℕ} (is : partAt (viewAt b a q) ≡ (f, c)) where
+  pub view-words : slice f (f + c) a ≡ viewOfPort b a q
+  unfolding viewOfPort
+  view-words = sym (ap (λ (part : ℕ × ℕ). slice (part .0) (part .0 + part .1) a) is)
+
+  pub view-place : partAt (viewAt b a q) .0 ≡ f
+  view-place = ap (λ (part : ℕ × ℕ). part .0) is

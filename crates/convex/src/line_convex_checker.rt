@@ -9,10 +9,13 @@ ghost use Rattle.paper.specs.Calls.{
   tryExtendIntervals,
   nodesInIntervals,
   linesAtPort,
+  viewAt,
+  partAt,
   viewOfPort,
 };
 ghost use Rattle.paper.specs.Promise.{KnownPorts, LinePortsPromise, LinePromise, StepList, Trusted};
 ghost use Rattle.line_checker.specs.Said.{lineSaid, intervalsSaid, extendSaid, nodesSaid};
+ghost use Rattle.port_lines.specs.Place.{StartsAt};
 ghost use Rattle.convex.specs.Said.{portLinesSaid};
 use line_checker::extend::ExtendAnswer;
 use line_checker::extend::extend_records;
@@ -209,9 +212,10 @@ pub fn lines_at_port(map: &[u8], area: &mut [u16], port: usize) -> PortLines
     PortLines::At(first, count)
 }
 
-// The lines at a port themselves, as a part of the area: empty on refusal, and nothing is written.
+// The lines at a port themselves, as a part of the area: empty on refusal, and nothing is written. What is returned stands in the area itself.
 pub fn view_lines_at_port<'a>(map: &[u8], area: &'a [u16], port: usize) -> &'a [u16]
     ensures { λ r. ⌜ now r ≡ viewOfPort (now (map .entry)) (now (area .entry)) port ⌝ }
+    ensures { λ r. ⌜ StartsAt r (area .entry) (partAt (viewAt (now (map .entry)) (now (area .entry)) port) .0) ⌝ }
 {
     let opened = open_shared(map, area);
     let Opened::Ready {

@@ -12,18 +12,16 @@ use lib.ListN.{length, getD, take, drop, replicate, set, length-set, length-take
 use lib.Seq.{sets, set-append-left, getD-take, take-all}
 use borrow.Author.Tests.{lt-ltb, le-ltb}
 use Rattle.lists.specs.Found.{placed}
-use Rattle.paper.specs.Map.{N, L, portNode, withinLimits}
+use Rattle.paper.specs.Map.{N, L, withinLimits}
 use Rattle.paper.specs.Accepted.{accepted}
 use Rattle.paper.specs.Area.{Section, size, start, W, wordOf, K, cleared, prepared, scratchCleared, written}
 use Rattle.paper.specs.Lines.{tables}
-use Rattle.paper.specs.Ports.{firstLine, lineCountAt}
 use Rattle.paper.specs.Refusals.{
   Ruling,
   passed,
   refusal,
   refuse,
   answer,
-  answered,
   onRefusal,
   decide,
   rule1,
@@ -32,10 +30,8 @@ use Rattle.paper.specs.Refusals.{
   rule45,
   rule6,
   rule7,
-  rule14,
 }
-use Rattle.paper.specs.Calls.{untouched, unprepared, opening, areaAfter, call, prepare, portRule, linesAtPort}
-use Rattle.paper.specs.Exports.{viewStart, viewAt}
+use Rattle.paper.specs.Calls.{untouched, unprepared, opening, areaAfter, call, prepare}
 use Rattle.paper.proofs.Area.{W-most}
 use Rattle.lines_theory.proofs.Prepared.{written-long}
 use Rattle.lines_theory.proofs.Written.{section-room}
@@ -44,9 +40,8 @@ use Rattle.accepted_theory.specs.SameOutcomes.{SameAnswer, SameOutcomes}
 use Rattle.accepted_theory.proofs.Alike.{Alike, in-the-end, next}
 use Rattle.accepted_theory.proofs.InUse.{same-below}
 use Rattle.accepted_theory.proofs.Calls.{same-outcomes}
-use Rattle.accepted_theory.proofs.Refusals.{not-passed, tables-passed, port-passed}
-use Rattle.refusals.specs.Said.{ruling}
-use Rattle.refusals.proofs.Rulings.{ruling-answer, head-passed, both-passed, roomy}
+use Rattle.accepted_theory.proofs.Refusals.{not-passed, tables-passed}
+use Rattle.refusals.proofs.Rulings.{head-passed, roomy}
 use Rattle.stepmap.proofs.Reading.{limits}
 use Rattle.crossing.proofs.Refused.{Shut, refused-alike}
 
@@ -114,6 +109,7 @@ itself b a =
       extending = λ words n v. (refl, refl);
       nodesInRecords = λ words n buffer. (refl, refl);
       linesAtOne = λ p. refl;
+      viewPlace = λ p. refl;
       view = λ p. refl;
     }
 
@@ -223,31 +219,3 @@ module _ (b a : List ℕ) where
           → onRefusal u (cleared b a) (prepared b a) ≡ onRefusal u (cleared b (cut a)) (prepared b (cut a)) ++ rest a
       go passed e room = sets-cut a 0 (written b) (omega (arith, all-written b e))
       go (refusal n p) e room = sets-cut a 0 (replicate (W b) 0) (omega (arith, length-replicate {A = ℕ} (W b) 0))
-
-  -- ---- the view
-
-  view-read : (p : ℕ) → passed ≡ decide (opening b a ++ portRule b p) → viewStart b a p ≡ viewStart b (cut a) p
-  unfolding viewStart wordOf opening size
-  view-read p e =
-      let asked = both-passed (opening b a) (portRule b p) e in
-      let opened = both-passed (untouched b a) (rule45 b ∷ rule7 b a ∷ []) (asked .0) in
-      let known = port-passed b p (sym (head-passed (rule14 b (p ∷ [])) [] (asked .1) .0)) in
-      ap (λ (w : ℕ). start b Section.linesOfNodes + (w + firstLine b p))
-      (sym (same-read (enough (opened .0) .0) (start b Section.nodeStarts + portNode b p) (omega (arith, known, section-room b Section.nodeStarts))))
-
-  pub view-cut : (p : ℕ) → viewAt b a p ≡ viewAt b (cut a) p
-  unfolding viewAt linesAtPort call answer
-  view-cut p =
-      go (decide (opening b a ++ portRule b p)) (view-read p)
-      ∙ ap (λ (u : Ruling). answer {A = ℕ × ℕ} u (viewStart b (cut a) p, lineCountAt b p)) decided
-    where
-      decided : decide (opening b a ++ portRule b p) ≡ decide (opening b (cut a) ++ portRule b p)
-      decided =
-          sym (ruling-answer (decide (opening b a ++ portRule b p)) (firstLine b p, lineCountAt b p))
-          ∙ ap ruling (outcomes-cut .linesAtOne p)
-          ∙ ruling-answer (decide (opening b (cut a) ++ portRule b p)) (firstLine b p, lineCountAt b p)
-
-      go : (u : Ruling) → (passed ≡ u → viewStart b a p ≡ viewStart b (cut a) p)
-          → answer {A = ℕ × ℕ} u (viewStart b a p, lineCountAt b p) ≡ answer u (viewStart b (cut a) p, lineCountAt b p)
-      go passed same = ap (λ (w : ℕ). answered (w, lineCountAt b p)) (same refl)
-      go (refusal n i) same = refl

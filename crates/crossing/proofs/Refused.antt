@@ -1,5 +1,5 @@
 -- Two areas at whose opening every call is refused alike: whatever would be asked of them, the outcome is the same.
--- Rests on accepted_theory's Alike and refusals' Rulings.
+-- Rests on accepted_theory's Alike and Ports, and refusals' Rulings.
 use Prim.Native.Nat.{ℕ}
 use mathlib.Core.Path.{_≡_, sym, _∙_}
 use mathlib.Core.Logic.{_≢_}
@@ -19,10 +19,11 @@ use Rattle.paper.specs.Calls.{
   tryExtendIntervals,
   nodesInIntervals,
   linesAtPort,
-  viewOfPort,
+  viewAt,
 }
 use Rattle.accepted_theory.specs.SameOutcomes.{SameAnswer, SameOutcomes}
 use Rattle.accepted_theory.proofs.Alike.{Alike, same-answer, same-kept}
+use Rattle.accepted_theory.proofs.Ports.{view-lines}
 use Rattle.refusals.proofs.Rulings.{first-decides}
 
 -- what opens every call refuses both areas by the same rule
@@ -44,7 +45,7 @@ module _ {b a c : List ℕ} (shut : Shut b a c) where
   keeps rs ss kept x y = same-kept (alike rs ss x y) kept (λ z. z)
 
   pub refused-alike : SameAnswer (prepare b a) (prepare b c) → SameOutcomes b a c
-  unfolding isNodeConvex topoIsNodeConvex isConvex topoIsConvex getIntervalsFromNodes isConvexByIntervals tryExtendIntervals nodesInIntervals linesAtPort viewOfPort call callInto
+  unfolding isNodeConvex topoIsNodeConvex isConvex topoIsConvex getIntervalsFromNodes isConvexByIntervals tryExtendIntervals nodesInIntervals linesAtPort viewAt call callInto
   refused-alike preparing =
       record {
         preparing = preparing;
@@ -57,5 +58,6 @@ module _ {b a c : List ℕ} (shut : Shut b a c) where
         extending = λ words n v. (says _ _ _ _, keeps _ _ _ _ _);
         nodesInRecords = λ words n buffer. (says _ _ _ _, keeps _ _ _ _ _);
         linesAtOne = λ p. says _ _ _ _;
-        view = λ p. keeps _ _ _ _ _;
+        viewPlace = λ p. says _ _ _ _;
+        view = λ p. view-lines b a p ∙ keeps _ _ _ _ _ ∙ sym (view-lines b c p);
       }

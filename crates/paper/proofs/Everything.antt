@@ -11,9 +11,9 @@ use Rattle.paper.specs.Intervals.{touched, listedPositions, interval, wi
 use Rattle.paper.specs.Walk.{M, nextOn, startNodes, standsBelow, visit, step, walkAfter, answerOf, walk, walkOn, lineCheck}
 use Rattle.paper.specs.OrderCheck.{placesOf, inRange, neighbourPlaces, insert, insertAll, passNode, passOther, stepTopo, topoAfter, replyOf, orderCheck}
 use Rattle.paper.specs.Records.{recordAt, recordsIn, wordsOfRecords, nextPosition, nextBelow, nextAbove, grow, behind, extendLine, extendLines, extend, insideOn, inside, nodesIn}
-use Rattle.paper.specs.Ports.{earlierPorts, firstLine, lineCountAt, linesAt, otherEnd, firstOtherEnd, conflict}
+use Rattle.paper.specs.Ports.{earlierPorts, firstLine, lineCountAt, linesAt, viewStart, otherEnd, firstOtherEnd, conflict}
 use Rattle.paper.specs.Refusals.{refuse, earliest, rule1, rule2, rule3, badLink, refuseLink, rule45, rule6, rule7, rule8, rule9, rule10, rule14, onLine, usedBefore, badRecord, wholeRecords, rule12, straddles, rule13, rule11, decide, answer, onRefusal}
-use Rattle.paper.specs.Calls.{untouched, unprepared, prepare, areaAfter, opening, call, callInto, lineRules, isNodeConvex, orderRules, topoIsNodeConvex, portRules, isConvex, topoIsConvex, said, wordsOf, needed, getIntervalsFromNodes, isConvexByIntervals, tryExtendIntervals, nodesInIntervals, linesAtPort, viewOfPort}
+use Rattle.paper.specs.Calls.{untouched, unprepared, prepare, areaAfter, opening, call, callInto, lineRules, isNodeConvex, orderRules, topoIsNodeConvex, portRules, isConvex, topoIsConvex, said, wordsOf, needed, getIntervalsFromNodes, isConvexByIntervals, tryExtendIntervals, nodesInIntervals, linesAtPort, viewAt, partAt, viewOfPort}
 use Rattle.paper.specs.Words.{wordsFrom, bytesFrom, putWords}
 use Rattle.paper.specs.Lookup.{lookup, rounded, float, quotient, product, moved, guess}
 use Rattle.paper.specs.Plain.{highestLowest}
@@ -60,7 +60,7 @@ unfolding recordAt recordsIn wordsOfRecords nextPosition nextBelow nextAbove gro
 of-Records = tt
 
 of-Ports : Unit {0}
-unfolding earlierPorts firstLine lineCountAt linesAt otherEnd firstOtherEnd conflict
+unfolding earlierPorts firstLine lineCountAt linesAt viewStart otherEnd firstOtherEnd conflict
 of-Ports = tt
 
 of-Refusals : Unit {0}
@@ -68,7 +68,7 @@ unfolding refuse earliest rule1 rule2 rule3 badLink refuseLink rule45 rule6 rule
 of-Refusals = tt
 
 of-Calls : Unit {0}
-unfolding untouched unprepared prepare areaAfter opening call callInto lineRules isNodeConvex orderRules topoIsNodeConvex portRules isConvex topoIsConvex said wordsOf needed getIntervalsFromNodes isConvexByIntervals tryExtendIntervals nodesInIntervals linesAtPort viewOfPort
+unfolding untouched unprepared prepare areaAfter opening call callInto lineRules isNodeConvex orderRules topoIsNodeConvex portRules isConvex topoIsConvex said wordsOf needed getIntervalsFromNodes isConvexByIntervals tryExtendIntervals nodesInIntervals linesAtPort viewAt partAt viewOfPort
 of-Calls = tt
 
 of-Words : Unit {0}

@@ -1,17 +1,17 @@
 -- Every call of 01 as one definition from its inputs to its answer and the lent words afterwards: b is the map's bytes, a the area's words.
 -- Rests on Refusals and on the definitions of the questions. Calls have the Rust's names.
-use Prim.Native.Nat.{ℕ}
+use Prim.Native.Nat.{ℕ, _+_}
 use mathlib.Core.Bool.{cond}
 use mathlib.Core.List.{List, [], _∷_, _++_}
 use lib.ListN.{length}
-use lib.Seq.{sets}
+use lib.Seq.{sets, slice}
 use Rattle.paper.specs.Lines.{tables}
 use Rattle.paper.specs.Area.{prepared, cleared, scratchCleared}
 use Rattle.paper.specs.Intervals.{Reply, No, Records, records, none, intervals}
 use Rattle.paper.specs.Walk.{walk, lineCheck}
 use Rattle.paper.specs.OrderCheck.{orderCheck}
 use Rattle.paper.specs.Records.{extend, nodesIn, recordsIn, wordsOfRecords}
-use Rattle.paper.specs.Ports.{firstLine, lineCountAt, linesAt, conflict}
+use Rattle.paper.specs.Ports.{firstLine, lineCountAt, viewStart, conflict}
 use Rattle.paper.specs.Refusals.{
   Ruling,
   rule1,
@@ -30,6 +30,8 @@ use Rattle.paper.specs.Refusals.{
   wholeRecords,
   decide,
   Answer,
+  refused,
+  answered,
   answer,
   onRefusal,
 }
@@ -171,6 +173,16 @@ portRule b p = rule14 b (p ∷ []) ∷ []
 unfoldable pub linesAtPort : List ℕ → List ℕ → ℕ → Left (ℕ × ℕ)
 linesAtPort b a p = call b a (portRule b p) (firstLine b p, lineCountAt b p)
 
--- "a second call, which writes nothing, gives the lines themselves as a part of the lent area, empty on refusal"
+-- "a second call, which writes nothing, gives the lines themselves as a part of the lent area": the word that the part starts at, and how many
+-- words it has
+unfoldable pub viewAt : List ℕ → List ℕ → ℕ → Answer (ℕ × ℕ)
+viewAt b a p = answer (decide (opening b a ++ portRule b p)) (viewStart b a p, lineCountAt b p)
+
+-- .. "empty on refusal"
+unfoldable pub partAt : Answer (ℕ × ℕ) → ℕ × ℕ
+partAt (refused n i) = (0, 0)
+partAt (answered part) = part
+
+-- .. and its words
 unfoldable pub viewOfPort : List ℕ → List ℕ → ℕ → List ℕ
-viewOfPort b a p = onRefusal (decide (opening b a ++ portRule b p)) [] (linesAt b a p)
+viewOfPort b a p = let part = partAt (viewAt b a p) in slice (part .0) (part .0 + part .1) a

@@ -1,16 +1,13 @@
 -- The exported functions, "on numbers and byte slices": each is a call of Calls whose words cross as bytes. A number says the case, and the
 -- values go to parameters of their own. Rests on Calls and Words.
-use Prim.Native.Nat.{ℕ, _+_}
+use Prim.Native.Nat.{ℕ}
 use mathlib.Core.Bool.{cond}
-use mathlib.Core.List.{List, [], _∷_, _++_}
+use mathlib.Core.List.{List, [], _∷_}
 use lib.Dec.{eqb}
 use lib.Seq.{sets}
-use Rattle.paper.specs.Map.{portNode}
-use Rattle.paper.specs.Area.{Section, start, wordOf}
 use Rattle.paper.specs.Intervals.{Reply, Yes, No}
-use Rattle.paper.specs.Ports.{firstLine, lineCountAt}
-use Rattle.paper.specs.Refusals.{Answer, refused, answered, answer, decide}
-use Rattle.paper.specs.Calls.{Left, LeftWith, Written, wrote, nothing, opening, portRule}
+use Rattle.paper.specs.Refusals.{Answer, refused, answered}
+use Rattle.paper.specs.Calls.{Left, LeftWith, Written, wrote, nothing}
 use Rattle.paper.specs.Words.{putWords}
 
 -- ---- an answer in numbers: 1 is an answer or yes; 2 is no, not contiguous or not extendable; with its values
@@ -83,13 +80,3 @@ module _ {A : Type 0} where
         area = putWords area (left .area);
         buffer = putWords buffer (left .buffer);
       }
-
--- ---- the view of a port's lines: "as a part of the lent area"
-
--- the word of the area that the part starts at
-unfoldable pub viewStart : List ℕ → List ℕ → ℕ → ℕ
-viewStart b a p = start b Section.linesOfNodes + (wordOf b a Section.nodeStarts (portNode b p) + firstLine b p)
-
--- that word, and how many there are
-unfoldable pub viewAt : List ℕ → List ℕ → ℕ → Answer (ℕ × ℕ)
-viewAt b a p = answer (decide (opening b a ++ portRule b p)) (viewStart b a p, lineCountAt b p)

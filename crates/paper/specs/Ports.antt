@@ -1,6 +1,6 @@
 -- 01, "The questions": lines at a port, and the first-link rule of the checks with ports.
 -- Rests on Map and Area.
-use Prim.Native.Nat.{ℕ, _-_}
+use Prim.Native.Nat.{ℕ, _+_, _-_}
 use mathlib.Core.Bool.{Bool, cond}
 use mathlib.Core.List.{List, map}
 use lib.ListN.{length, take, drop}
@@ -8,7 +8,7 @@ use lib.Dec.{eqb}
 use Rattle.lists.specs.Lists.{from, any, sum}
 use Rattle.lists.specs.Found.{Found, isAt, front}
 use Rattle.paper.specs.Map.{input, output, portNode, isOutput, sourcePort, targetPort, portLinks}
-use Rattle.paper.specs.Area.{linesOf}
+use Rattle.paper.specs.Area.{Section, start, wordOf, linesOf}
 
 -- "earlier ports of the same direction"
 unfoldable pub earlierPorts : List ℕ → ℕ → List ℕ
@@ -27,6 +27,10 @@ lineCountAt b p = length (portLinks b p)
 
 unfoldable pub linesAt : List ℕ → List ℕ → ℕ → List ℕ
 linesAt b a p = take (lineCountAt b p) (drop (firstLine b p) (linesOf b a (portNode b p)))
+
+-- "the lines themselves as a part of the lent area": the word of the area that the part starts at
+unfoldable pub viewStart : List ℕ → List ℕ → ℕ → ℕ
+viewStart b a p = start b Section.linesOfNodes + (wordOf b a Section.nodeStarts (portNode b p) + firstLine b p)
 
 -- the other end of a port's link
 unfoldable pub otherEnd : List ℕ → ℕ → ℕ → ℕ

@@ -13,7 +13,7 @@ use borrow.Author.Tests.{lt-ltb, le-ltb, le-leb, lt-leb, eq-eqb, ne-eqb}
 use Rattle.lists.specs.Lists.{from, upto, one, count}
 use Rattle.lists.specs.Weight.{total}
 use Rattle.lists.proofs.Count.{length-keep}
-use Rattle.lists.proofs.Upto.{from-snoc, from-add, upto-suc, count-append}
+use Rattle.lists.proofs.Upto.{from-snoc, upto-suc, count-append}
 use Rattle.lists.proofs.Weight.{total-append, total-add, count-total, count-upto-same, count-from-none}
 use Rattle.paper.specs.Map.{L, ins, outs, input, output, sourcePort, targetPort, portLinks}
 use Rattle.order_theory.specs.Sound.{Sound}
@@ -135,7 +135,7 @@ module _ (b : List ℕ) (out : Bool) (v low : ℕ) where
 abbrev pub linksFrom : List ℕ → ℕ → ℕ → ℕ
 linksFrom b q m = total (λ r. length (portLinks b r)) (from q m)
 
-pub row-suc : (b : List ℕ) (q m : ℕ) → linksFrom b q (suc m) ≡ linksFrom b q m + length (portLinks b (q + m))
+row-suc : (b : List ℕ) (q m : ℕ) → linksFrom b q (suc m) ≡ linksFrom b q m + length (portLinks b (q + m))
 row-suc b q m =
     omega (
       arith,
@@ -143,16 +143,7 @@ row-suc b q m =
       total-append (λ r. length (portLinks b r)) (from q m) ((q + m) ∷ []),
     )
 
--- fewer ports have no more
-pub row-more : (b : List ℕ) (q m k : ℕ) → linksFrom b q m ≤ linksFrom b q (m + k)
-row-more b q m k =
-    omega (
-      arith,
-      ap (total (λ r. length (portLinks b r))) (from-add q m k),
-      total-append (λ r. length (portLinks b r)) (from q m) (from (q + m) k),
-    )
-
-pub along : (b : List ℕ) (out : Bool) (v low m : ℕ) → portOf b out v low + m ≡ portOf b out v (low + m)
+along : (b : List ℕ) (out : Bool) (v low m : ℕ) → portOf b out v low + m ≡ portOf b out v (low + m)
 unfolding input output
 along b true v low m = omega arith
 along b false v low m = omega arith

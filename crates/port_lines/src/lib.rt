@@ -1,13 +1,15 @@
 // Translated from `lines_at_port` of src/algorithms/convex/line_convex_checker.rs of portgraph (88172a3c8e, Apache-2.0, see NOTICE), and
 // changed: the links of a node's earlier ports are counted in one pass over the map's links.
 ghost use mathlib.Core.Path.{_≡_};
-ghost use Prim.Native.Nat.{_<_};
+ghost use Prim.Native.Nat.{_+_, _<_};
 ghost use Rattle.lists.specs.Lists.{one};
 ghost use Rattle.paper.specs.Map.{P};
-ghost use Rattle.paper.specs.Ports.{firstLine, lineCountAt, linesAt};
+ghost use lib.Seq.{slice};
+ghost use Rattle.paper.specs.Ports.{firstLine, lineCountAt, viewStart};
 ghost use Rattle.stepmap.specs.Formed.{HasLink, ReadWell};
 ghost use Rattle.tables.specs.Usable.{Usable};
 ghost use Rattle.port_lines.specs.Ends.{KnownPort, endNode, endOffset, isAmong, linksAmong};
+ghost use Rattle.port_lines.specs.Place.{StartsAt};
 use stepmap::access::link_from;
 use stepmap::access::link_in;
 use stepmap::access::link_out;
@@ -15,7 +17,7 @@ use stepmap::access::link_to;
 use stepmap::ports::is_output;
 use stepmap::ports::port_node;
 use stepmap::ports::port_offset;
-use tables::entries;
+use words::section::word_at;
 
 // The node of link k at its output or at its input.
 fn end_node(b: &[u8], n: usize, k: usize, out: bool) -> usize
@@ -93,7 +95,18 @@ pub fn line_count(b: &[u8], n: usize, l: usize, p: usize, port: usize) -> usize
     links_among(b, n, l, out, v, offset, offset + 1)
 }
 
-// The lines at a port, as a part of the area (the Rust's `lines_at_port`).
+// The word of the area that a port's lines start at: in its node's list, behind the lines of its earlier ports.
+pub fn view_start(b: &[u8], n: usize, l: usize, p: usize, area: &[u16], port: usize) -> usize
+    requires { ⌜ Usable (now b) (now area) n l p ⌝ }
+    requires { ⌜ port < p ⌝ }
+    ensures { λ r. ⌜ r ≡ viewStart (now (b .entry)) (now (area .entry)) port ⌝ }
+{
+    let v = port_node(b, n, port);
+    let first = first_line(b, n, l, p, port);
+    2 + 3 * n + word_at(area, 1 + 2 * n, v) + first
+}
+
+// The lines at a port, as a part of the area (the Rust's `lines_at_port`): its words, and the place in the area that it starts at.
 pub fn lines_at_port<'a>(
     b: &[u8],
     n: usize,
@@ -104,11 +117,11 @@ pub fn lines_at_port<'a>(
 ) -> &'a [u16]
     requires { ⌜ Usable (now b) (now area) n l p ⌝ }
     requires { ⌜ port < p ⌝ }
-    ensures { λ r. ⌜ now r ≡ linesAt (now (b .entry)) (now (area .entry)) port ⌝ }
+    ensures { λ r. ⌜ now r ≡ slice (viewStart (now (b .entry)) (now (area .entry)) port)
+        (viewStart (now (b .entry)) (now (area .entry)) port + lineCountAt (now (b .entry)) port) (now (area .entry)) ⌝ }
+    ensures { λ r. ⌜ StartsAt r (area .entry) (viewStart (now (b .entry)) (now (area .entry)) port) ⌝ }
 {
-    let v = port_node(b, n, port);
-    let first = first_line(b, n, l, p, port);
+    let from = view_start(b, n, l, p, area, port);
     let count = line_count(b, n, l, p, port);
-    let lines = entries(area, 1 + 2 * n, 2 + 3 * n, v);
-    &lines[first..first + count]
+    &area[from..from + count]
 }

@@ -1,16 +1,30 @@
 -- The tables' words by their places in the area: positions, lists of lines and of nodes as parts, each entry, and what is known of it.
 -- Rests on lines_theory.Written (where sections start) and accepted_theory (starts).
-use Prim.Native.Nat.{ℕ, suc, _+_, _-_, _≤_, _<_}
+use Prim.Native.Nat.{ℕ, zero, suc, _+_, _-_, _≤_, _<_}
 use native.Mathlib.Numerals.{add-one}
 use native.Mathlib.Omega.{arith}
-use mathlib.Core.Path.{_≡_, sym, ap, ap₂, _∙_}
-use mathlib.Core.List.{List}
-use lib.ListN.{length, getD, take}
+use mathlib.Core.Path.{_≡_, refl, sym, ap, ap₂, _∙_}
+use mathlib.Core.List.{List, [], _∷_}
+use lib.ListN.{length, getD, take, drop}
 use lib.Seq.{slice, length-slice, getD-take, getD-drop}
 use Rattle.paper.specs.Area.{Section, start, wordOf, part, K, position, linesOf, nodesOf}
 use Rattle.lines_theory.proofs.Written.{startIs, start-is}
 use Rattle.accepted_theory.proofs.Starts.{start-most}
 use Rattle.tables.specs.Usable.{Usable, Spanned, positionsAt, nodeStartsAt, linesAt, lineStartsAt, nodesAt, entriesOf}
+
+-- a part by its start and its length is the part between its two ends
+pub between : (n f t : ℕ) (l : List ℕ) → n ≡ t - f → take n (drop f l) ≡ slice f t l
+between n zero t l e = ap (λ (k : ℕ). take k l) (whole n e)
+  where
+    whole : (n : ℕ) → n ≡ t - 0 → n ≡ t
+    whole n e = omega arith
+between n (suc f) zero l e = ap (λ (k : ℕ). take k (drop (suc f) l)) (gone n e)
+  where
+    gone : (n : ℕ) → n ≡ 0 - suc f → n ≡ 0
+    gone n e = omega arith
+between zero (suc f) (suc t) [] e = refl
+between (suc n) (suc f) (suc t) [] e = refl
+between n (suc f) (suc t) (x ∷ xs) e = between n f t xs (omega arith)
 
 -- one entry of a list of entries
 pub entry-word : (a : List ℕ) (starts at x i : ℕ) → getD a (starts + x) 0 + i < getD a (starts + (x + 1)) 0
@@ -33,10 +47,10 @@ entries-long {a} {starts} {at} {x} span =
     omega (arith, length-slice (at + getD a (starts + x) 0) (at + getD a (starts + (x + 1)) 0) a (span .ends-inside), span .rises)
 
 module _ {b a : List ℕ} {n l p : ℕ} (usable : Usable b a n l p) where
-  section-at : (s : Section) → start b s ≡ startIs n l s
+  pub section-at : (s : Section) → start b s ≡ startIs n l s
   section-at s = start-is b s ∙ ap₂ (λ (x y : ℕ). startIs x y s) (usable .read .nodes) (usable .read .links)
 
-  word-at : (s : Section) (i : ℕ) → wordOf b a s i ≡ getD a (startIs n l s + i) 0
+  pub word-at : (s : Section) (i : ℕ) → wordOf b a s i ≡ getD a (startIs n l s + i) 0
   unfolding wordOf
   word-at s i = ap (λ (o : ℕ). getD a (o + i) 0) (section-at s)
 

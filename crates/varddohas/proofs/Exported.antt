@@ -8,13 +8,13 @@ use lib.ListN.{length, take, drop, length-append, length-take}
 use lib.Seq.{sets, take-at}
 use Rattle.lists.proofs.Sections.{part-sets-in}
 use Rattle.paper.specs.Refusals.{Answer}
-use Rattle.paper.specs.Calls.{Left, LeftWith}
-use Rattle.paper.specs.Exports.{Told, Export, tell, inPair, export, exportWith, viewAt}
+use Rattle.paper.specs.Calls.{Left, LeftWith, viewAt}
+use Rattle.paper.specs.Exports.{Told, Export, tell, inPair, export, exportWith}
 use Rattle.paper.specs.Words.{wordsFrom, putWords}
 use Rattle.byte_calls.specs.Buffered.{buffered}
 use Rattle.words.proofs.RoundTrip.{Below}
 use Rattle.words.proofs.Turns.{length-wordsFrom}
-use Rattle.crossing.proofs.Cut.{cut, view-cut}
+use Rattle.crossing.proofs.Cut.{cut, outcomes-cut}
 use Rattle.crossing.proofs.Crossed.{Crosses, CrossesWith, inArea, put-back}
 
 -- ---- a room whose first k words are those that cross; the code lends them as `room[0..k]`, which are `k - 0` words
@@ -105,4 +105,4 @@ module _ {bytes held : List ℕ} {k : ℕ} (room : Held bytes held k) where
   view-exported b p asked values number place e =
       e
       ∙ ap (λ (x : Answer (ℕ × ℕ)). tell inPair x values number place)
-      (asked ∙ ap (λ (a : List ℕ). viewAt b a p) (room .words) ∙ sym (view-cut b (wordsFrom bytes) p))
+      (asked ∙ ap (λ (a : List ℕ). viewAt b a p) (room .words) ∙ sym (outcomes-cut b (wordsFrom bytes) .viewPlace p))

@@ -1,3 +1,2 @@
 pub mod Exported
 pub mod Promises
-pub mod View

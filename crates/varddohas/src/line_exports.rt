@@ -9,8 +9,9 @@ ghost use Rattle.paper.specs.Calls.{
   tryExtendIntervals,
   nodesInIntervals,
   linesAtPort,
+  viewAt,
 };
-ghost use Rattle.paper.specs.Exports.{export, exportWith, heardLine, inCount, inLineReply, inPair, inWritten, tell, viewAt};
+ghost use Rattle.paper.specs.Exports.{export, exportWith, heardLine, inCount, inLineReply, inPair, inWritten, tell};
 ghost use Rattle.paper.specs.Promise.{KnownPorts, LinePortsPromise, LinePromise, StepList, Trusted};
 ghost use Rattle.paper.specs.Words.{wordsFrom};
 use byte_calls::line_convex_checker::get_intervals_from_nodes;

@@ -1,59 +1,30 @@
--- `port_lines::lines_at_port` meets its contract: a node has a line for each of its links of one direction, so the part is within its list.
+-- `port_lines::lines_at_port` meets its contract: the part starts where the port's lines do, has a word for each of them, and is within the area.
 -- Rests on PortLines and tables' Words.
+use Prim.Native.Nat.{ℕ, _+_, _-_}
 use native.Mathlib.Omega.{arith}
-use mathlib.Core.Path.{ap}
-use lib.ListN.{length}
+use mathlib.Core.Path.{refl, ap₂, _∙_}
+use lib.Seq.{slice}
 use borrow.Author.Needs.{needs}
-use Rattle.tables.proofs.Words.{lines-are, lines-span}
-use Rattle.port_lines.proofs.PortLines.{node-known, lines-within, lines-few, part-is}
+use Rattle.tables.proofs.Words.{between}
+use Rattle.port_lines.proofs.PortLines.{view-few, view-inside}
 use Rattle.port_lines.proofs.lines_at_port.Statement.{statement}
 use Rattle.port_lines.proofs.lines_at_port.Tie as tie
 
-port-node-requires : tie.Need-port-node-requires
-port-node-requires c κs = search needs
-
-first-line-requires : tie.Need-first-line-requires
-first-line-requires c κs = search needs
+view-start-requires : tie.Need-view-start-requires
+view-start-requires c κs = search needs
 
 line-count-requires : tie.Need-line-count-requires
 line-count-requires c κs = search needs
 
-mul-entries : tie.Need-mul-entries
-mul-entries c = search needs
-
-add-entries : tie.Need-add-entries
-add-entries c = search needs
-
-mul-entries-2 : tie.Need-mul-entries-2
-mul-entries-2 c = search needs
-
-add-entries-2 : tie.Need-add-entries-2
-add-entries-2 c = search needs
-
-entries-requires : tie.Need-entries-requires
-entries-requires c κs =
-    let pre = c .before .before .before .before .before .pre in
-    lines-span (pre .0) _ (node-known (pre .0) (pre .1) (c .before .before .port-node .ensures))
-
 add-result : tie.Need-add-result
 add-result c =
-    let pre = c .before .before .before .before .before .before .pre in
-    omega (
-      arith,
-      lines-few (pre .0) (pre .1) (c .before .before .before .port-node .ensures) (c .before .before .first-line .ensures) (c .before .line-count .ensures),
-      pre .0 .read .few-nodes,
-      pre .0 .read .few-links,
-    )
+    let pre = c .before .before .before .before .pre in
+    omega (arith, view-few (pre .0) (pre .1), c .before .view-start .ensures, c .line-count .ensures, pre .0 .read .few-nodes, pre .0 .read .few-links)
 
 mul-result : tie.Need-mul-result
 mul-result c =
-    let pre = c .before .before .before .before .before .before .pre in
-    omega (
-      arith,
-      lines-few (pre .0) (pre .1) (c .before .before .before .port-node .ensures) (c .before .before .first-line .ensures) (c .before .line-count .ensures),
-      pre .0 .read .few-nodes,
-      pre .0 .read .few-links,
-    )
+    let pre = c .before .before .before .before .pre in
+    omega (arith, view-few (pre .0) (pre .1), c .before .view-start .ensures, c .line-count .ensures, pre .0 .read .few-nodes, pre .0 .read .few-links)
 
 sub-result : tie.Need-sub-result
 sub-result c = search needs
@@ -63,32 +34,28 @@ part-result-start c = search needs
 
 part-result-end : tie.Need-part-result-end
 part-result-end c =
-    let pre = c .before .before .before .before .before .before .pre in
-    omega (
-      arith,
-      lines-within (pre .0) (pre .1) (c .before .before .before .port-node .ensures) (c .before .before .first-line .ensures) (c .before .line-count .ensures),
-      ap length (lines-are (pre .0) (c .before .before .before .port-node .result)),
-      ap length (c .entries .ensures),
-    )
+    let pre = c .before .before .before .before .pre in
+    omega (arith, view-inside (pre .0) (pre .1), c .before .view-start .ensures, c .line-count .ensures)
 
 returns : tie.Need-returns
 returns c =
-    let counted = c .before .before in
-    let pre = counted .before .before .before .before .before .pre in
-    part-is (pre .0) (pre .1) (counted .before .before .port-node .ensures) (counted .before .first-line .ensures) (counted .line-count .ensures) (c .before .entries .ensures)
+    let counted = c .before in
+    let started = counted .before in
+    let area = started .before .before .before .args .area in
+    let from = started .view-start in
+    let count = counted .line-count in
+    let there =
+    between (from .result + count .result - from .result) (from .result) (from .result + count .result) (area .now) refl
+    ∙ ap₂ (λ (f c : ℕ). slice f (f + c) (area .now)) (from .ensures) (count .ensures)
+    in
+    (there, (refl, omega (arith, from .ensures)))
 
 pub lines-at-port-spec : {M : Type 1} → statement M
 lines-at-port-spec =
     tie.close
     (tie.spec
-    port-node-requires
-    first-line-requires
+    view-start-requires
     line-count-requires
-    mul-entries
-    add-entries
-    mul-entries-2
-    add-entries-2
-    entries-requires
     add-result
     mul-result
     sub-result

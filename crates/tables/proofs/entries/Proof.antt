@@ -1,28 +1,13 @@
 -- A part of the area by its two ends is what lies between them.
--- Rests on the contract of word_at.
-use Prim.Native.Nat.{ℕ, zero, suc, _+_, _-_}
-use native.Mathlib.Omega.{arith}
-use mathlib.Core.Path.{_≡_, refl, ap, ap₂, _∙_}
-use mathlib.Core.List.{List, [], _∷_}
+-- Rests on Words.
+use Prim.Native.Nat.{ℕ, _+_, _-_}
+use mathlib.Core.Path.{refl, ap₂, _∙_}
 use borrow.Author.Needs.{needs}
-use lib.ListN.{take, drop}
 use lib.Seq.{slice}
 use Rattle.tables.specs.Usable.{entriesOf}
+use Rattle.tables.proofs.Words.{between}
 use Rattle.tables.proofs.entries.Statement.{statement}
 use Rattle.tables.proofs.entries.Tie as tie
-
-between : (n f t : ℕ) (l : List ℕ) → n ≡ t - f → take n (drop f l) ≡ slice f t l
-between n zero t l e = ap (λ (k : ℕ). take k l) (whole n e)
-  where
-    whole : (n : ℕ) → n ≡ t - 0 → n ≡ t
-    whole n e = omega arith
-between n (suc f) zero l e = ap (λ (k : ℕ). take k (drop (suc f) l)) (gone n e)
-  where
-    gone : (n : ℕ) → n ≡ 0 - suc f → n ≡ 0
-    gone n e = omega arith
-between zero (suc f) (suc t) [] e = refl
-between (suc n) (suc f) (suc t) [] e = refl
-between n (suc f) (suc t) (x ∷ xs) e = between n f t xs (omega arith)
 
 word-at-requires : tie.Need-word-at-requires
 word-at-requires c κs = search needs

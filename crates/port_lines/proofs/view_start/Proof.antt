@@ -1,0 +1,73 @@
+-- `port_lines::view_start` meets its contract: the section of the lines, the start of the node's list and the place of the port's first line in it.
+-- Rests on PortLines.
+use native.Mathlib.Omega.{arith}
+use borrow.Author.Needs.{needs}
+use Rattle.port_lines.proofs.PortLines.{node-known, start-so, start-few}
+use Rattle.port_lines.proofs.view_start.Statement.{statement}
+use Rattle.port_lines.proofs.view_start.Tie as tie
+
+port-node-requires : tie.Need-port-node-requires
+port-node-requires c κs = search needs
+
+first-line-requires : tie.Need-first-line-requires
+first-line-requires c κs = search needs
+
+mul-result : tie.Need-mul-result
+mul-result c = search needs
+
+add-result : tie.Need-add-result
+add-result c = search needs
+
+mul-word-at : tie.Need-mul-word-at
+mul-word-at c = search needs
+
+add-word-at : tie.Need-add-word-at
+add-word-at c = search needs
+
+word-at-requires : tie.Need-word-at-requires
+word-at-requires c κs =
+    let pre = c .before .before .before .before .pre in
+    omega (arith, pre .0 .room, node-known (pre .0) (pre .1) (c .before .port-node .ensures))
+
+add-result-2 : tie.Need-add-result-2
+add-result-2 c =
+    let placed = c .before in
+    let pre = placed .before .before .before .before .pre in
+    omega (
+      arith,
+      start-few (pre .0) (pre .1) (placed .before .port-node .ensures) (c .word-at .ensures) (placed .first-line .ensures),
+      pre .0 .read .few-nodes,
+      pre .0 .read .few-links,
+    )
+
+add-result-3 : tie.Need-add-result-3
+add-result-3 c =
+    let placed = c .before in
+    let pre = placed .before .before .before .before .pre in
+    omega (
+      arith,
+      start-few (pre .0) (pre .1) (placed .before .port-node .ensures) (c .word-at .ensures) (placed .first-line .ensures),
+      pre .0 .read .few-nodes,
+      pre .0 .read .few-links,
+    )
+
+returns : tie.Need-returns
+returns c =
+    let placed = c .before in
+    let pre = placed .before .before .before .before .pre in
+    start-so (pre .0) (pre .1) (placed .before .port-node .ensures) (c .word-at .ensures) (placed .first-line .ensures)
+
+pub view-start-spec : {M : Type 1} → statement M
+view-start-spec =
+    tie.close
+    (tie.spec
+    port-node-requires
+    first-line-requires
+    mul-result
+    add-result
+    mul-word-at
+    add-word-at
+    word-at-requires
+    add-result-2
+    add-result-3
+    returns)
