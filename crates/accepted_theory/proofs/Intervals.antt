@@ -6,7 +6,7 @@ use mathlib.Core.Bool.{Bool, true, false, not, _||_, cond}
 use mathlib.Core.List.{List, map, flatMap}
 use Rattle.lists.specs.Lists.{all, keep, member, least, greatest, once}
 use Rattle.paper.specs.Area.{K, position, linesOf, nodesOf}
-use Rattle.paper.specs.Intervals.{Interval, records, none, touched, listedPositions, interval, within, contiguous, intervals}
+use Rattle.paper.specs.Intervals.{Interval, records, apart, touched, listedPositions, interval, within, contiguous, intervals}
 use Rattle.accepted_theory.specs.Every.{Every}
 use Rattle.accepted_theory.specs.SameTables.{KnownNode, KnownLine, KnownRecord, KnownRecords, SameTables}
 use Rattle.accepted_theory.proofs.Every.{every-keep, every-once, every-map, every-flatMap, map-every, flatMap-every, all-every}
@@ -46,7 +46,7 @@ module _ {b a c : List ℕ} (t : SameTables b a c) (list : List ℕ) where
   pub intervals-same : Every (KnownNode b) list → intervals b a list ≡ intervals b c list
   unfolding intervals
   intervals-same known =
-      ap₂ (λ (ok : Bool) (rs : List Interval). cond ok (records rs) none)
+      ap₂ (λ (ok : Bool) (rs : List Interval). cond ok (records rs) apart)
       (all-every (KnownLine b a) (contiguous b a list) (contiguous b c list) contiguous-same (touched b a list) (touched-known known)
       ∙ ap (all (contiguous b c list)) (touched-same known))
       (map-every (KnownLine b a) (interval b a list) (interval b c list) interval-same (touched b a list) (touched-known known)
@@ -57,6 +57,6 @@ module _ {b a c : List ℕ} (t : SameTables b a c) (list : List ℕ) where
   unfolding intervals interval
   intervals-known known = go (all (contiguous b a list) (touched b a list))
     where
-      go : (ok : Bool) → KnownRecords b a (cond ok (records (map (interval b a list) (touched b a list))) none)
+      go : (ok : Bool) → KnownRecords b a (cond ok (records (map (interval b a list) (touched b a list))) apart)
       go true = every-map (KnownLine b a) (KnownRecord b a) (interval b a list) (λ l h. h) (touched b a list) (touched-known known)
       go false = tt

@@ -14,7 +14,7 @@ use Rattle.lists.specs.Found.{Found}
 use Rattle.lists.proofs.First.{first-same}
 use Rattle.paper.specs.Map.{N, portNode}
 use Rattle.paper.specs.Area.{K, position, linesOf, nodesOf}
-use Rattle.paper.specs.Intervals.{Interval, Records, records, none, within}
+use Rattle.paper.specs.Intervals.{Interval, Records, records, apart, within}
 use Rattle.paper.specs.Records.{recordAt, along, grow, behind, extendLine, extendLines, extend, insideOn, inside, nodesIn}
 use Rattle.paper.specs.Ports.{lineCountAt, firstLine, linesAt}
 use Rattle.paper.specs.Refusals.{refusal, refuse, onLine, usedBefore, badRecord, wholeRecords, rule12, straddles, rule13}
@@ -38,7 +38,7 @@ module _ {b a c : List ℕ} (t : SameTables b a c) where
   pub extendLines-same : (p : ℕ) (ls : List ℕ) (e : Records) → Every (KnownLine b a) ls → extendLines b a p ls e ≡ extendLines b c p ls e
   unfolding extendLines
   extendLines-same p [] e known = refl
-  extendLines-same p (l ∷ ls) none known = refl
+  extendLines-same p (l ∷ ls) apart known = refl
   extendLines-same p (l ∷ ls) (records rs) known =
       extendLines-same p ls (extendLine b a p l rs) (known .1) ∙ ap (extendLines b c p ls) (extendLine-same p l rs (known .0))
 

@@ -10,7 +10,7 @@ use Rattle.lists.specs.Lists.{any, keep, member}
 use Rattle.lists.specs.Found.{front, listed}
 use Rattle.paper.specs.Map.{N, L, linkTo, outLinks, outNeighbours}
 use Rattle.paper.specs.Area.{K, position, nodesOf}
-use Rattle.paper.specs.Intervals.{Interval, Records, records, none, intervals}
+use Rattle.paper.specs.Intervals.{Interval, Records, records, apart, intervals}
 use Rattle.paper.specs.Walk.{
   M,
   nextOn,
@@ -137,7 +137,7 @@ module _ {b a c : List ℕ} (t : SameTables b a c) (s : Sound b) where
   pub walkOn-same : (found : Records) → KnownRecords b a found → walkOn b a found ≡ walkOn b c found
   unfolding walkOn
   walkOn-same (records rs) known = walk-same t s rs known
-  walkOn-same none known = refl
+  walkOn-same apart known = refl
 
   pub lineCheck-same : (list : List ℕ) → Every (KnownNode b) list → lineCheck b a list ≡ lineCheck b c list
   unfolding lineCheck

@@ -5,7 +5,7 @@ use mathlib.Core.Path.{_≡_}
 use mathlib.Core.List.{List}
 use Rattle.paper.specs.Map.{N}
 use Rattle.paper.specs.Area.{K, orderOf, position, linesOf, nodesOf}
-use Rattle.paper.specs.Intervals.{Interval, Records, records, none}
+use Rattle.paper.specs.Intervals.{Interval, Records, records, apart}
 use Rattle.accepted_theory.specs.Every.{Every}
 
 -- nodes of the map, lines of the tables, and records on such lines
@@ -20,7 +20,7 @@ KnownRecord b a r = r .line < K b a
 
 abbrev pub KnownRecords : List ℕ → List ℕ → Records → Type 0
 KnownRecords b a (records rs) = Every (KnownRecord b a) rs
-KnownRecords b a none = Unit {0}
+KnownRecords b a apart = Unit {0}
 
 pub record SameTables (b a c : List ℕ) : Type 0 where
   pub count : K b a ≡ K b c

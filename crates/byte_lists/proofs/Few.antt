@@ -12,7 +12,7 @@ use lib.ListN.{length, length-map}
 use Rattle.lists.specs.Found.{placed}
 use Rattle.lists.specs.Lists.{all}
 use Rattle.paper.specs.Calls.{needed}
-use Rattle.paper.specs.Intervals.{records, none, interval, intervals, contiguous, touched}
+use Rattle.paper.specs.Intervals.{records, apart, interval, intervals, contiguous, touched}
 use Rattle.paper.specs.Refusals.{passed, refuse, rule11, decide}
 use Rattle.intervals_theory.proofs.Collected.{touched-few}
 use Rattle.intervals.specs.Answer.{listIn}
@@ -25,7 +25,7 @@ one-a-line : (b a list : List ℕ) → needed (intervals b a list) ≤ length (t
 unfolding intervals needed
 one-a-line b a list = go (all (contiguous b a list) (touched b a list))
   where
-    go : (t : Bool) → needed (cond t (records (map (interval b a list) (touched b a list))) none) ≤ length (touched b a list)
+    go : (t : Bool) → needed (cond t (records (map (interval b a list) (touched b a list))) apart) ≤ length (touched b a list)
     go true = omega (arith, length-map (touched b a list) (interval b a list))
     go false = omega arith
 

@@ -8,7 +8,7 @@ use lib.ListN.{length, take}
 use lib.Seq.{sets, length-sets}
 use Rattle.lists.proofs.Sections.{part-sets-in}
 use Rattle.paper.specs.Calls.{Written, wrote, needed, said, wordsOf}
-use Rattle.paper.specs.Intervals.{Records, records, none}
+use Rattle.paper.specs.Intervals.{Records, records, apart}
 use Rattle.paper.specs.Refusals.{Ruling, passed, refusal, Answer, refused, answered, answer, decide, onRefusal}
 use Rattle.paper.specs.Words.{wordsFrom, putWords}
 use Rattle.words.proofs.RoundTrip.{Below, read-and-put}
@@ -38,7 +38,7 @@ unwritten : (u : Ruling) (found : Records) (words : List ℕ) → ((k : ℕ) →
     → onRefusal u words (sets words 0 (wordsOf found)) ≡ words
 unfolding answer onRefusal said wordsOf
 unwritten passed (records rs) words ne = absurd (ne (length rs) refl)
-unwritten passed none words ne = refl
+unwritten passed apart words ne = refl
 unwritten (refusal i v) found words ne = refl
 
 -- some: no rule refused, and so many there are

@@ -11,7 +11,7 @@ use denote.Enum.Declared.{tagOf}
 use Rattle.paper.specs.Intervals.{Records}
 use Rattle.paper.specs.Records.{extend, recordsIn}
 use Rattle.paper.specs.Refusals.{Ruling, passed, answered, answer, decide, rule9, rule11, rule12, rule13, wholeRecords}
-use Rattle.paper.specs.Calls.{wrote, nothing, said, wordsOf, needed}
+use Rattle.paper.specs.Calls.{wrote, foundApart, said, wordsOf, needed}
 use Rattle.paper.specs.Words.{wordsFrom, putWords}
 use Rattle.accepted_theory.proofs.Alike.{Alike}
 use Rattle.records_theory.proofs.Reading.{length-words}
@@ -41,7 +41,7 @@ last-passed u v w us e = head-passed w us (head-passed v (w ∷ us) (head-passed
 none-written : (r : ExtendAnswer) → OneOf (1 ∷ 2 ∷ []) (tagOf the-type r) → (f : Records) → extendSaid r ≡ answered (said f) → wordsOf f ≡ []
 unfolding wordsOf answer
 none-written (Extend.Records k) tag f e = absurd (miss (1 ∷ 2 ∷ []) 0 tt tag)
-none-written Extend.NotExtendable tag f e = ap wordsOf (wrote-none f (answered-passed passed nothing (said f) e .1))
+none-written Extend.NotExtendable tag f e = ap wordsOf (wrote-none f (answered-passed passed foundApart (said f) e .1))
 none-written (Extend.Refused x) tag f e = absurd (let z : _≡_ {A = ℕ} 0 1 = cc in omega arith)
 
 module _ {b a : List ℕ} {n l p : ℕ} (usable : Usable b a n l p) (bytes : List ℕ) (bytewise : Below 256 bytes) {count r : ℕ} {vs : List ℕ}

@@ -15,7 +15,7 @@ use Rattle.lists.proofs.Count.{one-eq, one-ne}
 use Rattle.lists.proofs.Members.{below-members}
 use Rattle.paper.specs.Map.{N}
 use Rattle.paper.specs.Area.{K, position, linesOf}
-use Rattle.paper.specs.Intervals.{Interval, Records, records, none, within}
+use Rattle.paper.specs.Intervals.{Interval, Records, records, apart, within}
 use Rattle.paper.specs.Records.{along, nextBelow, nextAbove, grow, behind, extendLine, extendLines, extend, nodesIn}
 use Rattle.paper.specs.Calls.{needed}
 use Rattle.accepted_theory.specs.Every.{Every}
@@ -27,7 +27,7 @@ use Rattle.records_theory.proofs.Sorted.{nodes-known, nodes-once}
 -- how many records have line j
 abbrev having : ℕ → Records → ℕ
 having j (records rs) = times j (lines rs)
-having j none = 0
+having j apart = 0
 
 -- each line below k has one record at most, and no other line has one
 record Own (k : ℕ) (e : Records) : Type 0 where
@@ -37,7 +37,7 @@ record Own (k : ℕ) (e : Records) : Type 0 where
 own-few : (k : ℕ) (e : Records) → Own k e → needed e ≤ k
 unfolding needed
 own-few k (records rs) own = omega (arith, fits k (lines rs) (own .below) (own .once), length-map rs (λ r. r .line))
-own-few k none own = omega arith
+own-few k apart own = omega arith
 
 module _ (b a : List ℕ) (p : ℕ) where
   -- a record that grows keeps its line
@@ -52,7 +52,7 @@ module _ (b a : List ℕ) (p : ℕ) where
       high = record { line = r .line; lowest = r .lowest; highest = p }
 
       go : (s t u : Bool)
-          → having j (cond s (records (low ∷ rest)) (cond t (records (high ∷ rest)) (cond u (records (r ∷ rest)) none))) ≤ times j (lines (r ∷ rest))
+          → having j (cond s (records (low ∷ rest)) (cond t (records (high ∷ rest)) (cond u (records (r ∷ rest)) apart))) ≤ times j (lines (r ∷ rest))
       go true t u = omega arith
       go false true u = omega arith
       go false false true = omega arith
@@ -61,7 +61,7 @@ module _ (b a : List ℕ) (p : ℕ) where
   behind-having : (j : ℕ) (r : Interval) (e : Records) → having j (behind r e) ≤ one (eqb j (r .line)) + having j e
   unfolding behind
   behind-having j r (records rs) = omega arith
-  behind-having j r none = omega arith
+  behind-having j r apart = omega arith
 
   -- only on line l can there be one more, and then it is the first
   line-having : (j l k : ℕ) (rs : List Interval) → times j (lines rs) ≤ k → (j ≡ l → 1 ≤ k) → having j (extendLine b a p l rs) ≤ k
@@ -92,7 +92,7 @@ module _ (b a : List ℕ) (p : ℕ) where
   lines-own : (k : ℕ) (ls : List ℕ) → Every (λ l. l < k) ls → (e : Records) → Own k e → Own k (extendLines b a p ls e)
   unfolding extendLines
   lines-own k [] known e own = own
-  lines-own k (l ∷ ls) known none own = own
+  lines-own k (l ∷ ls) known apart own = own
   lines-own k (l ∷ ls) known (records rs) own = lines-own k ls (known .1) (extendLine b a p l rs) (line-own k l rs (known .0) own)
 
 pub few-extended : {b a : List ℕ} {rs : List Interval} → Allowed b a rs → (v : ℕ) → Every (KnownLine b a) (linesOf b a v) → needed (extend b a rs v) ≤ K b a

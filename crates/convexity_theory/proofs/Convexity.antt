@@ -10,7 +10,7 @@ use Rattle.lists.specs.Lists.{In, Distinct}
 use Rattle.paper.specs.Map.{N, L}
 use Rattle.paper.specs.Area.{W}
 use Rattle.paper.specs.Accepted.{Accepted}
-use Rattle.paper.specs.Intervals.{Reply, Yes, No, Interval, records, none, intervals}
+use Rattle.paper.specs.Intervals.{Reply, Yes, No, Interval, records, apart, intervals}
 use Rattle.paper.specs.Walk.{M, going, stopped, walkAfter, answerOf, walk, walkOn, lineCheck}
 use Rattle.paper.specs.Plain.{Convex, Ahead, Number, highestLowest}
 use Rattle.order_theory.specs.Sound.{Sound}
@@ -26,7 +26,7 @@ use Rattle.convexity_theory.proofs.Ended.{Ended, empty, halted, ended, 
 -- ---- the check's answer from the intervals and the walk's end
 
 module _ (b a list : List ℕ) where
-  check-gap : intervals b a list ≡ none → lineCheck b a list ≡ (No, 0)
+  check-gap : intervals b a list ≡ apart → lineCheck b a list ≡ (No, 0)
   unfolding lineCheck walkOn
   check-gap e = rw e
 

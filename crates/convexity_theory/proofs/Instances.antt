@@ -11,7 +11,7 @@ use Rattle.lists.specs.Lists.{all, In}
 use Rattle.paper.specs.Map.{N}
 use Rattle.paper.specs.Area.{W, nodesOf}
 use Rattle.paper.specs.Accepted.{Accepted, accepted}
-use Rattle.paper.specs.Intervals.{Yes, No, none, intervals}
+use Rattle.paper.specs.Intervals.{Yes, No, apart, intervals}
 use Rattle.paper.specs.Walk.{lineCheck}
 use Rattle.paper.specs.Plain.{Convex, Ahead, Number}
 use Rattle.paper.specs.Calls.{prepare}
@@ -87,7 +87,7 @@ ahead-of-0-6 = line-count sound-B tables-B room-B (0 ∷ 6 ∷ []) (known-B (0 �
 
 -- ---- a no by a gap, and one by the walk: as 01 says of P6, but with these tables 0 3 has a gap and 0 2 has none
 
-gap-0-3 : intervals bytesB tablesB (0 ∷ 3 ∷ []) ≡ none
+gap-0-3 : intervals bytesB tablesB (0 ∷ 3 ∷ []) ≡ apart
 unfolding everything bytesB mapBytes mapB tablesB
 gap-0-3 = refl
 

@@ -13,7 +13,7 @@ use Rattle.lists.proofs.Places.{times-in, times-in-back}
 use Rattle.lists.proofs.Members.{MemberFor, member-for, member-times}
 use Rattle.paper.specs.Map.{N}
 use Rattle.paper.specs.Area.{K, position, linesOf, nodesOf}
-use Rattle.paper.specs.Intervals.{Interval, records, none, touched, listedPositions, interval, within, contiguous, intervals}
+use Rattle.paper.specs.Intervals.{Interval, records, apart, touched, listedPositions, interval, within, contiguous, intervals}
 use Rattle.paper.specs.Walk.{M}
 use Rattle.paper.specs.Plain.{Convex, highestLowest}
 use Rattle.convexity_theory.specs.Lined.{Lined}
@@ -82,7 +82,7 @@ module _ (b a list : List ℕ) (l : ℕ) where
 -- what the intervals of a list come to
 pub data Spanned (b a list : List ℕ) : Type 0 where
   fitting : (rs : List Interval) → intervals b a list ≡ records rs → Fits b a list rs → M rs ≡ highestLowest b a list → Spanned b a list
-  gap : intervals b a list ≡ none → (Convex b list → ⊥) → Spanned b a list
+  gap : intervals b a list ≡ apart → (Convex b list → ⊥) → Spanned b a list
 
 module _ {b a : List ℕ} (lined : Lined b a) (list : List ℕ) (known : (v : ℕ) → In v list → v < N b) where
   -- a line is touched by a listed node that stands on it
@@ -189,7 +189,7 @@ module _ {b a : List ℕ} (lined : Lined b a) (list : List ℕ) (known : (v : �
       lowests (l ∷ ls) = ap (λ (ps : List ℕ). interval b a list l .lowest ∷ ps) (lowests ls)
 
   intervals-are : (t : Bool) → all (contiguous b a list) (touched b a list) ≡ t
-      → intervals b a list ≡ cond t (records (map (interval b a list) (touched b a list))) none
+      → intervals b a list ≡ cond t (records (map (interval b a list) (touched b a list))) apart
   unfolding intervals
   intervals-are t e = rw e
 

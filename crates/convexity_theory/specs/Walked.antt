@@ -9,7 +9,7 @@ use lib.ListN.{length}
 use Rattle.lists.specs.Lists.{In, Distinct}
 use Rattle.paper.specs.Map.{L}
 use Rattle.paper.specs.Area.{position}
-use Rattle.paper.specs.Intervals.{Interval, records, none, intervals}
+use Rattle.paper.specs.Intervals.{Interval, records, apart, intervals}
 use Rattle.paper.specs.Walk.{M, startNodes, standsBelow, walkAfter, stopped}
 use Rattle.paper.specs.Plain.{Linked, Reached, Ahead}
 
@@ -63,5 +63,5 @@ pub record StoppedAt (b a list : List ℕ) (rs : List Interval) (c : ℕ) : Type
 
 -- "no with count 0 when not contiguous; else the queue walk"
 pub data NoBy (b a list : List ℕ) (c : ℕ) : Type 0 where
-  byGap : intervals b a list ≡ none → c ≡ 0 → NoBy b a list c
+  byGap : intervals b a list ≡ apart → c ≡ 0 → NoBy b a list c
   byWalk : (rs : List Interval) → intervals b a list ≡ records rs → StoppedAt b a list rs c → NoBy b a list c

@@ -15,7 +15,7 @@ use Rattle.lists.proofs.Count.{one-small, one-is}
 use Rattle.lists.proofs.Places.{times-place, place-new}
 use Rattle.lists.proofs.Upto.{length-table, table-same}
 use Rattle.paper.specs.Area.{K, position, linesOf, nodesOf}
-use Rattle.paper.specs.Intervals.{Interval, Records, records, none}
+use Rattle.paper.specs.Intervals.{Interval, Records, records, apart}
 use Rattle.paper.specs.Records.{recordAt, recordsIn, extend, extendLines}
 use Rattle.paper.specs.Refusals.{onLine}
 use Rattle.paper.specs.Calls.{wrote, said, wordsOf}

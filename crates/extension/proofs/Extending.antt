@@ -13,7 +13,7 @@ use lib.ListN.{length, getD, take, drop}
 use Rattle.lists.specs.Lists.{upto}
 use Rattle.lists.proofs.Upto.{table-suc, table-same}
 use Rattle.paper.specs.Area.{K}
-use Rattle.paper.specs.Intervals.{Interval, records, none}
+use Rattle.paper.specs.Intervals.{Interval, records, apart}
 use Rattle.paper.specs.Records.{recordAt, recordsIn, along}
 use Rattle.paper.specs.Refusals.{onLine}
 use Rattle.tables.specs.Usable.{Usable}

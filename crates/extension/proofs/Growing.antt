@@ -10,7 +10,7 @@ use lib.ListN.{getD}
 use lib.Dec.{leb}
 use Rattle.lists.specs.Lists.{member}
 use Rattle.lists.specs.Found.{isAt}
-use Rattle.paper.specs.Intervals.{Interval, Records, records, none, within}
+use Rattle.paper.specs.Intervals.{Interval, Records, records, apart, within}
 use Rattle.paper.specs.Records.{recordAt, nextPosition, nextBelow, nextAbove, grow}
 use Rattle.extension.specs.Room.{recordOf, Put, Growing, Grew}
 use Rattle.extension.proofs.Next.{not-next}
@@ -26,7 +26,7 @@ module _ (line room : List ℕ) (i p : ℕ) {x low high : ℕ} (isLine : x ≡ g
   -- by the three tests
   outcome : Bool → Bool → Bool → List Interval → Records
   outcome below above inside rest =
-      cond below (records (recordOf x p high ∷ rest)) (cond above (records (recordOf x low p ∷ rest)) (cond inside (records (recordOf x low high ∷ rest)) none))
+      cond below (records (recordOf x p high ∷ rest)) (cond above (records (recordOf x low p ∷ rest)) (cond inside (records (recordOf x low high ∷ rest)) apart))
 
   by-tests : {s t u : Bool} → isAt low (nextPosition line p) ≡ s → isAt p (nextPosition line high) ≡ t → (leb low p && leb p high) ≡ u
       → (rest : List Interval) → grow line p (recordAt room i) rest ≡ outcome s t u rest
@@ -48,7 +48,7 @@ module _ (line room : List ℕ) (i p : ℕ) {x low high : ℕ} (isLine : x ≡ g
         long = put .long;
       }
 
-  stopped : ((rest : List Interval) → grow line p (recordAt room i) rest ≡ none) → Grew line room i p false room
+  stopped : ((rest : List Interval) → grow line p (recordAt room i) rest ≡ apart) → Grew line room i p false room
   stopped e =
       record { grows = λ t. absurd (true≢false (sym t)); stops = λ t. e; kept = refl; others = λ j ne. refl; long = refl }
 

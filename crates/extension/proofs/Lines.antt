@@ -8,7 +8,7 @@ use mathlib.Core.Path.{_≡_, refl, sym, ap, ap₂, _∙_}
 use mathlib.Core.Bool.{Bool, cond}
 use mathlib.Core.List.{List, [], _∷_, _++_, map}
 use Rattle.lists.specs.Lists.{from}
-use Rattle.paper.specs.Intervals.{Interval, records, none}
+use Rattle.paper.specs.Intervals.{Interval, records, apart}
 use Rattle.paper.specs.Records.{along, grow, behind, extendLine, extendLines}
 use Rattle.extension.specs.Room.{recordOf}
 
@@ -57,21 +57,21 @@ module _ (b a : List ℕ) (p x : ℕ) where
             ∙ ap (behind (f n)) (rest (omega (arith, ne))) ∙ ap (λ (r : Interval). records (r ∷ map g (from (suc n) k))) (sym (agree n ne))
 
     -- .. or cannot
-    pub extend-not : ((rest : List Interval) → grow (along b a x) p (f s) rest ≡ none)
-        → (n k : ℕ) → n ≤ s → s < n + k → ((j : ℕ) → n ≤ j → j < s → f j .line ≡ x → ⊥) → extendLine b a p x (map f (from n k)) ≡ none
+    pub extend-not : ((rest : List Interval) → grow (along b a x) p (f s) rest ≡ apart)
+        → (n k : ℕ) → n ≤ s → s < n + k → ((j : ℕ) → n ≤ j → j < s → f j .line ≡ x → ⊥) → extendLine b a p x (map f (from n k)) ≡ apart
     unfolding behind
     extend-not stops n zero low high other = absurd (omega arith)
     extend-not stops n (suc k) low high other =
         go (ℕ-discrete n s) (λ later. extend-not stops (suc n) k later (omega arith) (λ j o h. other j (omega arith) h))
       where
-        go : Dec (n ≡ s) → (suc n ≤ s → extendLine b a p x (map f (from (suc n) k)) ≡ none) → extendLine b a p x (f n ∷ map f (from (suc n) k)) ≡ none
+        go : Dec (n ≡ s) → (suc n ≤ s → extendLine b a p x (map f (from (suc n) k)) ≡ apart) → extendLine b a p x (f n ∷ map f (from (suc n) k)) ≡ apart
         go (yes e) rest =
             met (f n) (map f (from (suc n) k)) (ap (λ (j : ℕ). f j .line) e ∙ line)
             ∙ ap (λ (j : ℕ). grow (along b a x) p (f j) (map f (from (suc n) k))) e ∙ stops (map f (from (suc n) k))
         go (no ne) rest = passed-by (f n) (map f (from (suc n) k)) (other n (omega arith) (omega (arith, ne))) ∙ ap (behind (f n)) (rest (omega (arith, ne)))
 
 -- nothing comes of lines behind one that stops
-pub none-left : (b a : List ℕ) (p : ℕ) (ls : List ℕ) → extendLines b a p ls none ≡ none
+pub none-left : (b a : List ℕ) (p : ℕ) (ls : List ℕ) → extendLines b a p ls apart ≡ apart
 unfolding extendLines
 none-left b a p [] = refl
 none-left b a p (l ∷ ls) = refl

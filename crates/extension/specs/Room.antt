@@ -8,7 +8,7 @@ use mathlib.Core.List.{List, _∷_}
 use lib.ListN.{length, getD}
 use Rattle.lists.specs.Lists.{member}
 use Rattle.paper.specs.Area.{K}
-use Rattle.paper.specs.Intervals.{Interval, records, none}
+use Rattle.paper.specs.Intervals.{Interval, records, apart}
 use Rattle.paper.specs.Records.{recordAt, recordsIn, grow, extendLine, extendLines}
 use Rattle.paper.specs.Refusals.{onLine}
 use Rattle.tables.specs.Recorded.{Unmarked, Marked}
@@ -39,7 +39,7 @@ pub record Growing (line room : List ℕ) (i p : ℕ) : Type 0 where
 -- record i grew as 01 says, or could not
 pub record Grew (line room : List ℕ) (i p : ℕ) (grown : Bool) (after : List ℕ) : Type 0 where
   pub grows : grown ≡ true → (rest : List Interval) → grow line p (recordAt room i) rest ≡ records (recordAt after i ∷ rest)
-  pub stops : grown ≡ false → (rest : List Interval) → grow line p (recordAt room i) rest ≡ none
+  pub stops : grown ≡ false → (rest : List Interval) → grow line p (recordAt room i) rest ≡ apart
   pub kept : recordAt after i .line ≡ recordAt room i .line
   pub others : (j : ℕ) → (j ≡ i → ⊥) → recordAt after j ≡ recordAt room j
   pub long : length after ≡ length room

@@ -10,7 +10,7 @@ use lib.ListN.{length, getD, take, replicate, length-map, List·getD-map}
 use lib.Seq.{sets}
 use Rattle.lists.specs.Lists.{all, upto, In}
 use Rattle.lists.proofs.Sections.{part}
-use Rattle.paper.specs.Intervals.{Records, records, none, intervals}
+use Rattle.paper.specs.Intervals.{Records, records, apart, intervals}
 use Rattle.paper.specs.Calls.{wrote, said, wordsOf}
 use Rattle.accepted_theory.specs.Every.{Every}
 use Rattle.accepted_theory.specs.SameTables.{KnownNode}
@@ -65,16 +65,16 @@ module _ {b a : List ℕ} {n l p count : ℕ} (usable : Usable b a n l p) (liste
   can-test =
       can-test-all (cleared usable listed is) list (listing usable listed) holds scratched few (omega (arith, became .long))
 
-  by-map : intervals b a list ≡ cond (all (fills b c) held) (records (map (λ h. h .interval) held)) none
+  by-map : intervals b a list ≡ cond (all (fills b c) held) (records (map (λ h. h .interval) held)) apart
   by-map =
       intervals-same (tables-still usable (cleared-kept usable listed is)) list (every-in (KnownNode b) list (listing usable listed .known))
       ∙ intervals-by-map (cleared usable listed is .tables) list (listing usable listed)
 
   -- what the test of the records says
-  tested : {r : Bool} → r ≡ all (fillsRecord m n l ws) (upto made) → intervals b a list ≡ cond r (records (map (λ h. h .interval) held)) none
+  tested : {r : Bool} → r ≡ all (fillsRecord m n l ws) (upto made) → intervals b a list ≡ cond r (records (map (λ h. h .interval) held)) apart
   tested e =
       by-map
-      ∙ ap (λ (t : Bool). cond t (records (map (λ h. h .interval) held)) none)
+      ∙ ap (λ (t : Bool). cond t (records (map (λ h. h .interval) held)) apart)
       (sym (e ∙ all-fill (cleared usable listed is) list (listing usable listed) holds scratched))
 
   answer : (found : Records) → intervals b a list ≡ found → (r : Intervals) → intervalsSaid r ≡ said found
@@ -90,13 +90,13 @@ module _ {b a : List ℕ} {n l p count : ℕ} (usable : Usable b a n l p) (liste
   pub not-contiguous : {r : Bool} → r ≡ all (fillsRecord m n l ws) (upto made) → r ≡ false → Collected b a n l p count rs NotContiguous ws m
   unfolding said wordsOf
   not-contiguous {r} e fails =
-      answer none (tested e ∙ ap (λ (t : Bool). cond t (records (map (λ h. h .interval) held)) none) fails) NotContiguous refl refl
+      answer apart (tested e ∙ ap (λ (t : Bool). cond t (records (map (λ h. h .interval) held)) apart) fails) NotContiguous refl refl
 
   pub contiguous : {r : Bool} → r ≡ all (fillsRecord m n l ws) (upto made) → r ≡ true → Collected b a n l p count rs (Found made) ws m
   unfolding said wordsOf
   contiguous {r} e passes =
       answer (records (map (λ h. h .interval) held))
-      (tested e ∙ ap (λ (t : Bool). cond t (records (map (λ h. h .interval) held)) none) passes)
+      (tested e ∙ ap (λ (t : Bool). cond t (records (map (λ h. h .interval) held)) apart) passes)
       (Found made)
       (ap wrote (sym (length-map held (λ h. h .interval) ∙ holds .many)))
       (record-words (map (λ h. h .interval) held) ws (fresh 0 0 .interval)

@@ -6,14 +6,14 @@ use mathlib.Core.List.{List}
 use lib.ListN.{length, take}
 use Rattle.lists.proofs.Sections.{part}
 use Rattle.paper.specs.Intervals.{intervals}
-use Rattle.paper.specs.Calls.{Written, wrote, nothing, said, wordsOf}
+use Rattle.paper.specs.Calls.{Written, wrote, foundApart, said, wordsOf}
 use Rattle.tables.specs.Usable.{Scratched, scratchAt}
 use Rattle.intervals.specs.declared.Intervals.{Intervals}
 use Rattle.intervals.specs.declared.Intervals.the-variants.{Records, NotContiguous}
 
 abbrev pub intervalsSaid : Intervals → Written
 intervalsSaid (Records c) = wrote c
-intervalsSaid NotContiguous = nothing
+intervalsSaid NotContiguous = foundApart
 
 -- the `count` nodes in the scratch's first words
 abbrev pub listIn : List ℕ → ℕ → ℕ → ℕ → List ℕ

@@ -17,7 +17,7 @@ use Rattle.lists.proofs.Members.{member-yes, times-kept}
 use Rattle.paper.specs.Area.{K, position, nodesOf}
 use Rattle.paper.specs.Accepted.{Accepted}
 use Rattle.paper.specs.Lookup.{lookup}
-use Rattle.paper.specs.Intervals.{Interval, Records, records, none, touched, listedPositions, interval, within, contiguous, intervals}
+use Rattle.paper.specs.Intervals.{Interval, Records, records, apart, touched, listedPositions, interval, within, contiguous, intervals}
 use Rattle.intervals_theory.specs.SmallMap.{Held, addNodes, fills}
 use Rattle.intervals_theory.specs.Collected.{Listing, held}
 use Rattle.intervals_theory.proofs.Laws.{least-there, all-in, all-map, all-passes, all-passed, rising-places}
@@ -80,14 +80,14 @@ module _ {b a : List ℕ} (acc : Accepted b a) (list : List ℕ) (listing : List
           omega (arith, times-kept (position b a) (λ v. member v list) (least (listedPositions b a list l)) (nodesOf b a l))
 
   pub intervals-by-map : intervals b a list
-      ≡ cond (all (fills b a) (addNodes b a list [])) (records (map (λ h. h .interval) (addNodes b a list []))) none
+      ≡ cond (all (fills b a) (addNodes b a list [])) (records (map (λ h. h .interval) (addNodes b a list []))) apart
   unfolding intervals held
   intervals-by-map =
-      ap₂ (λ (t : Bool) (rs : List Interval). cond t (records rs) none)
+      ap₂ (λ (t : Bool) (rs : List Interval). cond t (records rs) apart)
       (sym (all-in (λ l. fills b a (held b a list l)) (contiguous b a list) (touched b a list) fills-contiguous)
       ∙ sym (all-map (fills b a) (held b a list) (touched b a list)))
       (sym (map-map (λ h. h .interval) (held b a list) (touched b a list)))
-      ∙ ap (λ (hs : List Held). cond (all (fills b a) hs) (records (map (λ h. h .interval) hs)) none) (sym (collected acc list listing))
+      ∙ ap (λ (hs : List Held). cond (all (fills b a) hs) (records (map (λ h. h .interval) hs)) apart) (sym (collected acc list listing))
 
 -- records exactly if every touched line is contiguous
 pub contiguous-records : (b a list : List ℕ)
@@ -99,13 +99,13 @@ contiguous-records b a list = (to (all (contiguous b a list) (touched b a list))
     given : Records
     given = records (map (interval b a list) (touched b a list))
 
-    to : (t : Bool) → all (contiguous b a list) (touched b a list) ≡ t → cond t given none ≡ given
+    to : (t : Bool) → all (contiguous b a list) (touched b a list) ≡ t → cond t given apart ≡ given
         → (l : ℕ) → In l (touched b a list) → contiguous b a list l ≡ true
     to true e q = all-passed (contiguous b a list) (touched b a list) e
     to false e q = absurd (never q)
       where
-        never : none ≡ given → ⊥
+        never : apart ≡ given → ⊥
         never q = let z : _≡_ {A = ℕ} 0 1 = cc in omega arith
 
     back : ((l : ℕ) → In l (touched b a list) → contiguous b a list l ≡ true) → intervals b a list ≡ given
-    back h = ap (λ (t : Bool). cond t given none) (all-passes (contiguous b a list) (touched b a list) h)
+    back h = ap (λ (t : Bool). cond t given apart) (all-passes (contiguous b a list) (touched b a list) h)

@@ -4,7 +4,7 @@ use Prim.Native.Nat.{ℕ}
 use mathlib.Core.Path.{_≡_, refl, sym, ap, _∙_}
 use Rattle.paper.specs.Intervals.{Reply, Yes, No}
 use Rattle.paper.specs.Refusals.{Answer, refused, answered, refusal}
-use Rattle.paper.specs.Calls.{Written, wrote, nothing}
+use Rattle.paper.specs.Calls.{Written, wrote, foundApart}
 use Rattle.refusals.specs.declared.Refusal.{Refusal}
 use Rattle.refusals.proofs.Answers.{meant, meant-back}
 use Rattle.line_checker.specs.Said.{lineSaid, intervalsSaid, extendSaid, nodesSaid}
@@ -40,7 +40,7 @@ lineSaid-injective r s e = sym (line-back r) ∙ ap line-meant e ∙ line-back s
 
 found : Written → IntervalsAnswer
 found (wrote n) = Intervals.Records n
-found nothing = Intervals.NotContiguous
+found foundApart = Intervals.NotContiguous
 
 intervals-meant : Answer Written → IntervalsAnswer
 intervals-meant (refused i v) = Intervals.Refused (meant (refusal i v))
@@ -59,7 +59,7 @@ intervalsSaid-injective r s e = sym (intervals-back r) ∙ ap intervals-meant e 
 
 extended : Written → ExtendAnswer
 extended (wrote n) = Extend.Records n
-extended nothing = Extend.NotExtendable
+extended foundApart = Extend.NotExtendable
 
 extend-meant : Answer Written → ExtendAnswer
 extend-meant (refused i v) = Extend.Refused (meant (refusal i v))

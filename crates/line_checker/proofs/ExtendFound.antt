@@ -11,7 +11,7 @@ use lib.Seq.{sets}
 use Rattle.paper.specs.Intervals.{Records}
 use Rattle.paper.specs.Records.{extend, recordsIn}
 use Rattle.paper.specs.Refusals.{Ruling, passed, Answer, answered, refused, decide, rule9, rule11, rule12, rule13, wholeRecords}
-use Rattle.paper.specs.Calls.{Written, wrote, nothing, said, wordsOf, needed}
+use Rattle.paper.specs.Calls.{Written, wrote, foundApart, said, wordsOf, needed}
 use Rattle.accepted_theory.proofs.Records.{extend-same}
 use Rattle.records_theory.proofs.Reading.{length-words}
 use Rattle.refusals.specs.Said.{ruled, refusedBy}
@@ -37,7 +37,7 @@ Rules words found = rule11 (wholeRecords words) (needed found) ∷ []
 
 module _ (n l p : ℕ) {b a words : List ℕ} {count v : ℕ} {room : List ℕ} {r : Extended} {ws : List ℕ} (got : ExtendsTo b a words count v room r ws) where
   pub not-into : r ≡ NotExtendable
-      → AnsweredInto n l p a a (answered nothing) (Rules words (extend b a (recordsIn words count) v)) (said (extend b a (recordsIn words count) v)) words
+      → AnsweredInto n l p a a (answered foundApart) (Rules words (extend b a (recordsIn words count) v)) (said (extend b a (recordsIn words count) v)) words
       words
       (wordsOf (extend b a (recordsIn words count) v))
   not-into e =

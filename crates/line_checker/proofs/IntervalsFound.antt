@@ -12,7 +12,7 @@ use Rattle.paper.specs.Map.{N}
 use Rattle.paper.specs.Intervals.{Records, records, intervals, touched}
 use Rattle.paper.specs.Records.{wordsOfRecords}
 use Rattle.paper.specs.Refusals.{Ruling, passed, Answer, answered, refused, decide, refuse, earliest, rule9, rule10, rule11, wholeRecords}
-use Rattle.paper.specs.Calls.{Written, wrote, nothing, said, wordsOf, needed}
+use Rattle.paper.specs.Calls.{Written, wrote, foundApart, said, wordsOf, needed}
 use Rattle.records_theory.proofs.Reading.{length-words}
 use Rattle.refusals.specs.Said.{ruled, refusedBy, ruling}
 use Rattle.refusals.specs.declared.Refusal.{Refusal}
@@ -40,7 +40,7 @@ Rules buffer found = rule11 (wholeRecords buffer) (needed found) ∷ []
 
 module _ {b m : List ℕ} {n l p c : ℕ} {rs : List ℕ} {r : Intervals} {ws o : List ℕ} (got : Collected b m n l p c rs r ws o) (buffer : List ℕ) where
   pub gap-into : r ≡ NotContiguous
-      → AnsweredInto n l p m o (answered nothing) (Rules buffer (intervals b m (listIn m n l c))) (said (intervals b m (listIn m n l c))) buffer buffer
+      → AnsweredInto n l p m o (answered foundApart) (Rules buffer (intervals b m (listIn m n l c))) (said (intervals b m (listIn m n l c))) buffer buffer
       (wordsOf (intervals b m (listIn m n l c)))
   gap-into e =
       into-answered (got .kept)

@@ -9,9 +9,9 @@ use borrow.Author.Tests.{lt-ltb, le-ltb}
 use lib.ListN.{length, take}
 use lib.Seq.{sets}
 use Rattle.lists.specs.Found.{placed}
-use Rattle.paper.specs.Intervals.{Records, none}
+use Rattle.paper.specs.Intervals.{Records, apart}
 use Rattle.paper.specs.Refusals.{Ruling, passed, refusal, refuse, rule11, wholeRecords, decide, Answer, answer, answered, refused, onRefusal}
-use Rattle.paper.specs.Calls.{Written, wrote, nothing, said, wordsOf, needed}
+use Rattle.paper.specs.Calls.{Written, wrote, foundApart, said, wordsOf, needed}
 use Rattle.records_theory.proofs.Reading.{length-words}
 use Rattle.tables.specs.Answered.{AnsweredInto}
 use Rattle.tables.specs.Usable.{Scratched}
@@ -46,11 +46,11 @@ module _ {A : Type 0} (rules : List Ruling) (x : A) (buffer result : List ℕ) w
 
 module _ (found : Records) (buffer : List ℕ) where
   -- "11 is not given for "not contiguous" or "not extendable"."
-  pub none-into : found ≡ none → Into (answered nothing) (rule11 (wholeRecords buffer) (needed found) ∷ []) (said found) buffer buffer (wordsOf found)
+  pub none-into : found ≡ apart → Into (answered foundApart) (rule11 (wholeRecords buffer) (needed found) ∷ []) (said found) buffer buffer (wordsOf found)
   unfolding said needed wordsOf
   none-into e =
-      subst (λ (f : Records). Into (answered nothing) (rule11 (wholeRecords buffer) (needed f) ∷ []) (said f) buffer buffer (wordsOf f)) (sym e)
-      (into-passed (rule11 (wholeRecords buffer) 0 ∷ []) nothing buffer [] (short-enough (wholeRecords buffer) 0 (omega arith)) refl)
+      subst (λ (f : Records). Into (answered foundApart) (rule11 (wholeRecords buffer) (needed f) ∷ []) (said f) buffer buffer (wordsOf f)) (sym e)
+      (into-passed (rule11 (wholeRecords buffer) 0 ∷ []) foundApart buffer [] (short-enough (wholeRecords buffer) 0 (omega arith)) refl)
 
   module _ {made : ℕ} (held : Wrote found made) where
     many : made ≡ needed found

@@ -11,11 +11,11 @@ use lib.Dec.{ltb}
 use Rattle.lists.specs.Found.{Found, absent, at, first}
 use Rattle.lists.proofs.First.{first-absent}
 use Rattle.lists.proofs.Sections.{sets-part}
-use Rattle.paper.specs.Intervals.{Interval, Records, records, none}
+use Rattle.paper.specs.Intervals.{Interval, Records, records, apart}
 use Rattle.paper.specs.Records.{recordsIn, wordsOfRecords}
 use Rattle.paper.specs.Refusals.{passed, refusal, refuse, badRecord, rule12, wholeRecords}
 use Rattle.refusals.proofs.Rulings.{no-refusal}
-use Rattle.paper.specs.Calls.{wrote, nothing, said}
+use Rattle.paper.specs.Calls.{wrote, foundApart, said}
 use Rattle.records_theory.proofs.Reading.{read-back, length-words}
 use Rattle.accepted_theory.specs.SameTables.{SameTables}
 use Rattle.accepted_theory.proofs.Records.{badRecord-same}
@@ -30,18 +30,18 @@ pub record Wrote (found : Records) (made : ℕ) : Type 0 where
 pub wrote-some : (found : Records) (made : ℕ) → wrote made ≡ said found → Wrote found made
 unfolding said
 wrote-some (records rs) made e = record { list = rs; is = refl; many = cc }
-wrote-some none made e = absurd (different e)
+wrote-some apart made e = absurd (different e)
   where
-    different : wrote made ≡ nothing → ⊥
+    different : wrote made ≡ foundApart → ⊥
     different e = let z : _≡_ {A = ℕ} 0 1 = cc in omega arith
 
-pub wrote-none : (found : Records) → nothing ≡ said found → found ≡ none
+pub wrote-none : (found : Records) → foundApart ≡ said found → found ≡ apart
 unfolding said
 wrote-none (records rs) e = absurd (different e)
   where
-    different : nothing ≡ wrote (length rs) → ⊥
+    different : foundApart ≡ wrote (length rs) → ⊥
     different e = let z : _≡_ {A = ℕ} 0 1 = cc in omega arith
-wrote-none none e = refl
+wrote-none apart e = refl
 
 -- words that begin with records hold them
 pub read-first : (words : List ℕ) (rs : List Interval) → length rs ≤ wholeRecords words → take (length (wordsOfRecords rs)) words ≡ wordsOfRecords rs

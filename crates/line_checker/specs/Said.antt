@@ -3,7 +3,7 @@
 use Prim.Native.Nat.{ℕ}
 use Rattle.paper.specs.Intervals.{Reply, Yes, No}
 use Rattle.paper.specs.Refusals.{Answer, answered}
-use Rattle.paper.specs.Calls.{Written, wrote, nothing}
+use Rattle.paper.specs.Calls.{Written, wrote, foundApart}
 use Rattle.refusals.specs.Said.{refusedBy}
 use Rattle.line_checker.specs.declared.extend.ExtendAnswer.{ExtendAnswer}
 use Rattle.line_checker.specs.declared.extend.ExtendAnswer.the-variants as Extend
@@ -23,12 +23,12 @@ lineSaid (Line.Refused x) = refusedBy x
 
 abbrev pub intervalsSaid : IntervalsAnswer → Answer Written
 intervalsSaid (Intervals.Records n) = answered (wrote n)
-intervalsSaid Intervals.NotContiguous = answered nothing
+intervalsSaid Intervals.NotContiguous = answered foundApart
 intervalsSaid (Intervals.Refused x) = refusedBy x
 
 abbrev pub extendSaid : ExtendAnswer → Answer Written
 extendSaid (Extend.Records n) = answered (wrote n)
-extendSaid Extend.NotExtendable = answered nothing
+extendSaid Extend.NotExtendable = answered foundApart
 extendSaid (Extend.Refused x) = refusedBy x
 
 abbrev pub nodesSaid : NodesAnswer → Answer ℕ

@@ -18,7 +18,7 @@ use Rattle.paper.specs.Calls.{
   LeftWith,
   Written,
   wrote,
-  nothing,
+  foundApart,
   prepare,
   isNodeConvex,
   topoIsNodeConvex,
@@ -110,8 +110,8 @@ isPlace (answered x) i c = eqb (x .0) i && eqb (x .1) c
 -- the buffer holds the words given and then what it held, 9
 isGiven : Answer Written → List ℕ → List ℕ → Given → Bool
 isGiven (refused n p) old new g = false
-isGiven (answered nothing) old new (given ws) = false
-isGiven (answered nothing) old new none = same new old
+isGiven (answered foundApart) old new (given ws) = false
+isGiven (answered foundApart) old new none = same new old
 isGiven (answered (wrote k)) old new none = false
 isGiven (answered (wrote k)) old new (given ws) =
     eqb (3 * k) (length ws) && same new (ws ++ drop (length ws) old)

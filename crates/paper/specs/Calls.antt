@@ -7,7 +7,7 @@ use lib.ListN.{length}
 use lib.Seq.{sets, slice}
 use Rattle.paper.specs.Lines.{tables}
 use Rattle.paper.specs.Area.{prepared, cleared, scratchCleared}
-use Rattle.paper.specs.Intervals.{Reply, No, Records, records, none, intervals}
+use Rattle.paper.specs.Intervals.{Reply, No, Records, records, apart, intervals}
 use Rattle.paper.specs.Walk.{walk, lineCheck}
 use Rattle.paper.specs.OrderCheck.{orderCheck}
 use Rattle.paper.specs.Records.{extend, nodesIn, recordsIn, wordsOfRecords}
@@ -117,23 +117,23 @@ topoIsConvex b a list inputs outputs =
 
 -- ---- intervals and records: n records stand in the words
 
--- how many were written; or that there are none: "not contiguous", "not extendable"
+-- how many were written; or that nodes were found apart, and none was: "not contiguous", "not extendable"
 pub data Written : Type 0 where
   wrote : ℕ → Written
-  nothing : Written
+  foundApart : Written
 
 unfoldable pub said : Records → Written
 said (records rs) = wrote (length rs)
-said none = nothing
+said apart = foundApart
 
 unfoldable pub wordsOf : Records → List ℕ
 wordsOf (records rs) = wordsOfRecords rs
-wordsOf none = []
+wordsOf apart = []
 
 -- "11 is not given for "not contiguous" or "not extendable"."
 unfoldable pub needed : Records → ℕ
 needed (records rs) = length rs
-needed none = 0
+needed apart = 0
 
 -- "Intervals"
 unfoldable pub getIntervalsFromNodes : List ℕ → List ℕ → List ℕ → List ℕ → LeftWith Written

@@ -7,7 +7,7 @@ use lib.Dec.{eqb}
 use lib.Seq.{sets}
 use Rattle.paper.specs.Intervals.{Reply, Yes, No}
 use Rattle.paper.specs.Refusals.{Answer, refused, answered}
-use Rattle.paper.specs.Calls.{Left, LeftWith, Written, wrote, nothing}
+use Rattle.paper.specs.Calls.{Left, LeftWith, Written, wrote, foundApart}
 use Rattle.paper.specs.Words.{putWords}
 
 -- ---- an answer in numbers: 1 is an answer or yes; 2 is no, not contiguous or not extendable; with its values
@@ -25,7 +25,7 @@ inReply No = (2, [])
 
 unfoldable pub inWritten : Written → ℕ × List ℕ
 inWritten (wrote n) = (1, n ∷ [])
-inWritten nothing = (2, [])
+inWritten foundApart = (2, [])
 
 unfoldable pub inPair : ℕ × ℕ → ℕ × List ℕ
 inPair (m, n) = (1, m ∷ n ∷ [])

@@ -16,10 +16,11 @@ pub record Interval : Type 0 where
   pub lowest : ℕ
   pub highest : ℕ
 
--- what a list of nodes, or an extension, comes to: records; or none, which is "not contiguous" or "not extendable"
+-- what a list of nodes, or an extension, comes to: records, which may be no records at all; or that nodes stand apart on a line, with another
+-- node between them: "not contiguous" of a list, "not extendable" of an extension
 pub data Records : Type 0 where
   records : List Interval → Records
-  none : Records
+  apart : Records
 
 -- "for each line touched, first seen first"
 unfoldable pub touched : List ℕ → List ℕ → List ℕ → List ℕ
@@ -44,4 +45,4 @@ contiguous b a list l = all (λ v. member v list || not (within (interval b a li
 unfoldable pub intervals : List ℕ → List ℕ → List ℕ → Records
 intervals b a list =
     let lines = touched b a list in
-    cond (all (contiguous b a list) lines) (records (map (interval b a list) lines)) none
+    cond (all (contiguous b a list) lines) (records (map (interval b a list) lines)) apart

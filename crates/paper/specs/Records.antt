@@ -9,7 +9,7 @@ use Rattle.lists.specs.Lists.{upto, any, keep, sortBy}
 use Rattle.lists.specs.Found.{Found, isAt, front}
 use Rattle.paper.specs.Map.{N}
 use Rattle.paper.specs.Area.{position, linesOf, nodesOf}
-use Rattle.paper.specs.Intervals.{Interval, Records, records, none, within}
+use Rattle.paper.specs.Intervals.{Interval, Records, records, apart, within}
 
 -- ---- records as words: line, lowest, highest
 
@@ -45,11 +45,11 @@ unfoldable pub grow : List ℕ → ℕ → Interval → List Interval → Record
 grow line p r rest =
     cond (nextBelow line r p) (records (record { line = r .line; lowest = p; highest = r .highest } ∷ rest))
     (cond (nextAbove line r p) (records (record { line = r .line; lowest = r .lowest; highest = p } ∷ rest))
-    (cond (within r p) (records (r ∷ rest)) none))
+    (cond (within r p) (records (r ∷ rest)) apart))
 
 unfoldable pub behind : Interval → Records → Records
 behind r (records rs) = records (r ∷ rs)
-behind r none = none
+behind r apart = apart
 
 -- ".. or new", "new records last"
 unfoldable pub extendLine : List ℕ → List ℕ → ℕ → ℕ → List Interval → Records
@@ -59,7 +59,7 @@ extendLine b a p l (r ∷ rs) = cond (eqb (r .line) l) (grow (along b a l) p r r
 -- ".. in the node's line order; else "not extendable""
 unfoldable pub extendLines : List ℕ → List ℕ → ℕ → List ℕ → Records → Records
 extendLines b a p [] e = e
-extendLines b a p (l ∷ ls) none = none
+extendLines b a p (l ∷ ls) apart = apart
 extendLines b a p (l ∷ ls) (records rs) = extendLines b a p ls (extendLine b a p l rs)
 
 unfoldable pub extend : List ℕ → List ℕ → List Interval → ℕ → Records

@@ -9,7 +9,7 @@ use Rattle.lists.specs.Lists.{any, keep, member, greatest}
 use Rattle.lists.specs.Found.{Found, front, listed}
 use Rattle.paper.specs.Map.{L, outNeighbours}
 use Rattle.paper.specs.Area.{position, linesOf, nodesOf}
-use Rattle.paper.specs.Intervals.{Reply, Yes, No, Interval, Records, records, none, intervals}
+use Rattle.paper.specs.Intervals.{Reply, Yes, No, Interval, Records, records, apart, intervals}
 
 -- "M (the largest of the lowest positions)"
 unfoldable pub M : List Interval → ℕ
@@ -60,7 +60,7 @@ walk b a rs = answerOf (walkAfter b a rs (length rs + L b))
 
 -- "no with count 0 when not contiguous; else the queue walk"
 unfoldable pub walkOn : List ℕ → List ℕ → Records → Reply × ℕ
-walkOn b a none = (No, 0)
+walkOn b a apart = (No, 0)
 walkOn b a (records rs) = walk b a rs
 
 unfoldable pub lineCheck : List ℕ → List ℕ → List ℕ → Reply × ℕ

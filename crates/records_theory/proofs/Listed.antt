@@ -12,7 +12,7 @@ use Rattle.lists.proofs.Members.{keep-there}
 use Rattle.paper.specs.Map.{N}
 use Rattle.paper.specs.Area.{W, position, linesOf, nodesOf}
 use Rattle.paper.specs.Accepted.{Accepted}
-use Rattle.paper.specs.Intervals.{Interval, records, none, touched, listedPositions, interval, within, contiguous, intervals}
+use Rattle.paper.specs.Intervals.{Interval, records, apart, touched, listedPositions, interval, within, contiguous, intervals}
 use Rattle.paper.specs.Records.{insideOn, inside, nodesIn}
 use Rattle.records_theory.proofs.Among.{
   same-truth,
@@ -81,7 +81,7 @@ unfolding intervals
 intervals-are b a list {rs} e = go (all (contiguous b a list) (touched b a list)) refl e
   where
     go : (t : Bool) → all (contiguous b a list) (touched b a list) ≡ t
-        → cond t (records (map (interval b a list) (touched b a list))) none ≡ records rs
+        → cond t (records (map (interval b a list) (touched b a list))) apart ≡ records rs
         → IntervalsOf b a list rs
     go true p e = record { each = cc; whole = p }
     go false p e = absurd (let z : _≡_ {A = ℕ} 0 1 = cc in omega arith)

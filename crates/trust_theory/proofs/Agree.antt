@@ -10,7 +10,7 @@ use lib.ListN.{length}
 use lib.Seq.{sets}
 use Rattle.lists.specs.Bounds.{Below}
 use Rattle.paper.specs.Map.{N}
-use Rattle.paper.specs.Intervals.{Reply, Yes, No, Interval, Records, records, none, intervals}
+use Rattle.paper.specs.Intervals.{Reply, Yes, No, Interval, Records, records, apart, intervals}
 use Rattle.paper.specs.Walk.{lineCheck}
 use Rattle.paper.specs.OrderCheck.{orderCheck}
 use Rattle.paper.specs.Records.{wordsOfRecords}
@@ -29,7 +29,7 @@ use Rattle.paper.specs.Calls.{
   isConvex,
   topoIsConvex,
   wrote,
-  nothing,
+  foundApart,
   said,
   wordsOf,
   needed,
@@ -97,12 +97,12 @@ written b a list buffer {n} e = go (intervals b a list) refl e
     rules : Records → List Ruling
     rules found = rule9 b list ∷ rule10 list ∷ rule11 (wholeRecords buffer) (needed found) ∷ []
 
-    some : nothing ≡ wrote n → ⊥
+    some : foundApart ≡ wrote n → ⊥
     some q = let z : _≡_ {A = ℕ} 0 1 = cc in omega arith
 
     go : (found : Records) → intervals b a list ≡ found → answer (decide (opening b a ++ rules found)) (said found) ≡ answered (wrote n)
         → Wrote b a list buffer n
-    go none q e = absurd (some (not-refused nothing (decide (opening b a ++ rules none)) e .1))
+    go apart q e = absurd (some (not-refused foundApart (decide (opening b a ++ rules apart)) e .1))
     go (records rs) q e =
         let r = not-refused (wrote (length rs)) (decide (opening b a ++ rules (records rs))) e in
         let last = each-passes (rules (records rs)) .0 (both-pass (opening b a) (rules (records rs)) .0 (r .0) .1) in

@@ -6,7 +6,7 @@ use mathlib.Core.Path.{_≡_, refl, sym, ap, _∙_}
 use mathlib.Core.List.{List, [], _∷_, _++_}
 use lib.ListN.{replicate}
 use Rattle.paper.specs.Area.{W, nodesOf}
-use Rattle.paper.specs.Intervals.{Yes, No, none, intervals}
+use Rattle.paper.specs.Intervals.{Yes, No, apart, intervals}
 use Rattle.paper.specs.Refusals.{refused, answered}
 use Rattle.paper.specs.Calls.{prepare, isNodeConvex, topoIsNodeConvex, isConvex, topoIsConvex, wrote, getIntervalsFromNodes, isConvexByIntervals}
 use Rattle.paper.specs.Promise.{Trusted, KnownSteps, StepList, KnownPorts, LinePromise}
@@ -50,7 +50,7 @@ yes-0-6 : isNodeConvex bytesB tablesB (0 ∷ 6 ∷ []) .answer ≡ answered (Yes
 unfolding everything bytesB mapBytes mapB tablesB
 yes-0-6 = refl
 
-gap-0-3 : intervals bytesB tablesB (0 ∷ 3 ∷ []) ≡ none
+gap-0-3 : intervals bytesB tablesB (0 ∷ 3 ∷ []) ≡ apart
 unfolding everything bytesB mapBytes mapB tablesB
 gap-0-3 = refl
 
