@@ -130,8 +130,8 @@ module _ {b a : List ℕ} (lined : Lined b a) (list : List ℕ) (known : (v : �
         listed v low high e = sym (or-false (member v list)) ∙ rw (le-leb _ _ low, le-leb _ _ high) at e
 
     -- a listed and an unlisted node of the line do not stand at one position
-    apart : (u v : ℕ) → In u list → (In v list → ⊥) → In u (nodesOf b a l) → In v (nodesOf b a l) → position b a u ≡ position b a v → ⊥
-    apart u v i out j k e =
+    no-tie : (u v : ℕ) → In u list → (In v list → ⊥) → In u (nodesOf b a l) → In v (nodesOf b a l) → position b a u ≡ position b a v → ⊥
+    no-tie u v i out j k e =
         out (subst (λ (x : ℕ). In x list) (same-node (position b a) (nodesOf b a l) (lined .rises l (t .lineKnown)) j k e) i)
 
     -- an unlisted node between has a path to it from below and one from it to above
@@ -140,8 +140,8 @@ module _ {b a : List ℕ} (lined : Lined b a) (list : List ℕ) (known : (v : �
     gap-at v out j low high convex =
         let bottom = lowest-listed b a list l (t .node) (t .inList) (t .onLine) in
         let top = highest-listed b a list l (t .node) (t .inList) (t .onLine) in
-        let under = apart (bottom .node) v (bottom .inList) out (bottom .onLine) j in
-        let over = apart (top .node) v (top .inList) out (top .onLine) j in
+        let under = no-tie (bottom .node) v (bottom .inList) out (bottom .onLine) j in
+        let over = no-tie (top .node) v (top .inList) out (top .onLine) j in
         convex (bottom .node) v (top .node) (bottom .inList)
         (climbs lined l (t .lineKnown) (bottom .node) v (bottom .onLine) j (omega (arith, bottom .stands)))
         out

@@ -1,20 +1,36 @@
 // The questions about lists of nodes and about ports, asked again: whether each answer is the recorded one.
 use convex::line_convex_checker as line;
-use convex::line_convex_checker::PortLines;
 use convex::topo_convex_checker as topo;
-use line_checker::list_intervals::IntervalsAnswer;
+use line_checker::room::copy_out;
 use line_checker::room::record_room;
-use recorded::comparing::is_given;
-use recorded::comparing::is_line_answer;
-use recorded::comparing::is_list;
-use recorded::comparing::is_order_answer;
-use recorded::comparing::is_word;
+use recorded::answers::is_intervals_answer;
+use recorded::answers::is_line_answer;
+use recorded::answers::is_order_answer;
+use recorded::answers::is_port_answer;
 use recorded::line_parts::Part;
 use recorded::line_parts::list_at;
 use words::field::wide;
+ghost use mathlib.Core.Bool.{true};
+ghost use mathlib.Core.Path.{_≡_};
+ghost use Prim.Native.Nat.{_≤_};
+ghost use lib.ListN.{length, drop};
+ghost use Rattle.lists.specs.Lists.{same};
+ghost use Rattle.paper.specs.Calls.{areaAfter, getIntervalsFromNodes, isConvex, topoIsConvex};
+ghost use Rattle.recorded.specs.Answers.{lineWords, orderWords, withList, writtenWords};
+ghost use Rattle.recorded.specs.Questions.{
+  sameIntervals,
+  sameLineCheck,
+  sameLinePorts,
+  sameOrderCheck,
+  sameOrderPorts,
+  samePortLines,
+};
 
-// Line check: the list; reply and count.
-pub fn same_line_check(words: &[u16], map: &[u8], area: &mut [u16]) -> bool {
+// Line check: the list; the answer.
+pub fn same_line_check(words: &[u16], map: &[u8], area: &mut [u16]) -> bool
+    ensures { λ r. ⌜ r ≡ sameLineCheck (now (words .entry)) (now (map .entry)) (now (area .entry)) ⌝ }
+    ensures { λ r. ⌜ (r ≡ true → now (area .exit) ≡ areaAfter (now (map .entry)) (now (area .entry))) ⌝ }
+{
     let list = list_at(words, 1);
     let Part::Words { from, to } = list else {
         return false;
@@ -23,8 +39,11 @@ pub fn same_line_check(words: &[u16], map: &[u8], area: &mut [u16]) -> bool {
     is_line_answer(words, to, answer)
 }
 
-// Order check: the list; reply.
-pub fn same_order_check(words: &[u16], map: &[u8], area: &mut [u16]) -> bool {
+// Order check: the list; the answer.
+pub fn same_order_check(words: &[u16], map: &[u8], area: &mut [u16]) -> bool
+    ensures { λ r. ⌜ r ≡ sameOrderCheck (now (words .entry)) (now (map .entry)) (now (area .entry)) ⌝ }
+    ensures { λ r. ⌜ (r ≡ true → now (area .exit) ≡ areaAfter (now (map .entry)) (now (area .entry))) ⌝ }
+{
     let list = list_at(words, 1);
     let Part::Words { from, to } = list else {
         return false;
@@ -33,8 +52,11 @@ pub fn same_order_check(words: &[u16], map: &[u8], area: &mut [u16]) -> bool {
     is_order_answer(words, to, answer)
 }
 
-// Line check with ports: the list, inputs and outputs; reply and count.
-pub fn same_line_ports(words: &[u16], map: &[u8], area: &mut [u16]) -> bool {
+// Line check with ports: the list, inputs and outputs; the answer.
+pub fn same_line_ports(words: &[u16], map: &[u8], area: &mut [u16]) -> bool
+    ensures { λ r. ⌜ r ≡ sameLinePorts (now (words .entry)) (now (map .entry)) (now (area .entry)) ⌝ }
+    ensures { λ r. ⌜ (r ≡ true → now (area .exit) ≡ areaAfter (now (map .entry)) (now (area .entry))) ⌝ }
+{
     let list = list_at(words, 1);
     let Part::Words { from, to } = list else {
         return false;
@@ -65,8 +87,11 @@ pub fn same_line_ports(words: &[u16], map: &[u8], area: &mut [u16]) -> bool {
     is_line_answer(words, outputs_end, answer)
 }
 
-// Order check with ports: the list, inputs and outputs; reply.
-pub fn same_order_ports(words: &[u16], map: &[u8], area: &mut [u16]) -> bool {
+// Order check with ports: the list, inputs and outputs; the answer.
+pub fn same_order_ports(words: &[u16], map: &[u8], area: &mut [u16]) -> bool
+    ensures { λ r. ⌜ r ≡ sameOrderPorts (now (words .entry)) (now (map .entry)) (now (area .entry)) ⌝ }
+    ensures { λ r. ⌜ (r ≡ true → now (area .exit) ≡ areaAfter (now (map .entry)) (now (area .entry))) ⌝ }
+{
     let list = list_at(words, 1);
     let Part::Words { from, to } = list else {
         return false;
@@ -97,37 +122,62 @@ pub fn same_order_ports(words: &[u16], map: &[u8], area: &mut [u16]) -> bool {
     is_order_answer(words, outputs_end, answer)
 }
 
-// Intervals: the list; 0, or 1 and the records.
-pub fn same_intervals(words: &[u16], map: &[u8], area: &mut [u16]) -> bool {
+// Intervals of a list, into a buffer: whether the rest is the answer, and all words of the buffer afterwards.
+fn intervals_into(
+    words: &[u16],
+    at: usize,
+    map: &[u8],
+    area: &mut [u16],
+    list: &[u16],
+    buffer: &mut [u16],
+) -> bool
+    requires { ⌜ at ≤ length (now words) ⌝ }
+    ensures { λ r. ⌜ r ≡ same (drop at (now (words .entry)))
+        (withList
+        (writtenWords (getIntervalsFromNodes (now (map .entry)) (now (area .entry)) (now (list .entry)) (now (buffer .entry)) .answer))
+        (getIntervalsFromNodes (now (map .entry)) (now (area .entry)) (now (list .entry)) (now (buffer .entry)) .buffer)) ⌝ }
+    ensures { λ _. ⌜ now (area .exit) ≡ areaAfter (now (map .entry)) (now (area .entry)) ⌝ }
+{
+    let answer = line::get_intervals_from_nodes(map, area, list, buffer);
+    is_intervals_answer(words, at, answer, buffer)
+}
+
+// Intervals: the list and the buffer; the answer and the buffer.
+pub fn same_intervals(words: &[u16], map: &[u8], area: &mut [u16]) -> bool
+    ensures { λ r. ⌜ r ≡ sameIntervals (now (words .entry)) (now (map .entry)) (now (area .entry)) ⌝ }
+    ensures { λ r. ⌜ (r ≡ true → now (area .exit) ≡ areaAfter (now (map .entry)) (now (area .entry))) ⌝ }
+{
     let list = list_at(words, 1);
     let Part::Words { from, to } = list else {
         return false;
     };
-    let mut room = record_room();
-    let answer = line::get_intervals_from_nodes(map, area, &words[from..to], &mut room);
-    match answer {
-        IntervalsAnswer::Records(count) => is_given(words, to, &room, count),
-        IntervalsAnswer::NotContiguous => is_word(words, to, 0),
-        IntervalsAnswer::Refused(_) => false,
+    let buffer = list_at(words, to);
+    let Part::Words {
+        from: start,
+        to: end,
+    } = buffer
+    else {
+        return false;
+    };
+    let size = end - start;
+    if size > 7680 {
+        return false;
     }
+    let mut room = record_room();
+    copy_out(&words[start..end], &mut room, size);
+    intervals_into(words, end, map, area, &words[from..to], &mut room[0..size])
 }
 
-// Lines at a port: the port; the first one's place in its node's list, and the lines. Both calls are asked.
-pub fn same_port_lines(words: &[u16], map: &[u8], area: &mut [u16]) -> bool {
-    if words.len() < 4 {
+// Lines at a port: the port; the answer and the lines. Both calls are asked.
+pub fn same_port_lines(words: &[u16], map: &[u8], area: &mut [u16]) -> bool
+    ensures { λ r. ⌜ r ≡ samePortLines (now (words .entry)) (now (map .entry)) (now (area .entry)) ⌝ }
+    ensures { λ r. ⌜ (r ≡ true → now (area .exit) ≡ areaAfter (now (map .entry)) (now (area .entry))) ⌝ }
+{
+    if words.len() < 2 {
         return false;
     }
     let port = wide(words[1]);
     let answer = line::lines_at_port(map, area, port);
-    let PortLines::At(first, count) = answer else {
-        return false;
-    };
-    if first != wide(words[2]) {
-        return false;
-    }
-    if count != wide(words[3]) {
-        return false;
-    }
     let view = line::view_lines_at_port(map, area, port);
-    is_list(words, 3, view)
+    is_port_answer(words, 2, answer, view)
 }

@@ -1,3 +1,4 @@
 pub mod Same
 pub mod MapBytes
 pub mod Bounds
+pub mod Asked

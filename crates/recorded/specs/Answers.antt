@@ -1,23 +1,36 @@
--- The answers as the file writes them; a refusal is never recorded.
--- Rests on paper's Intervals and Refusals.
+-- The answers as the file writes them: the case, the values, number and place, as the exports tell them; what a case does not have is 0.
+-- Rests on paper's Exports.
 use Prim.Native.Nat.{ℕ}
-use mathlib.Core.Bool.{Bool, false}
-use mathlib.Core.List.{List, [], _∷_}
-use Rattle.lists.specs.Lists.{same}
-use Rattle.paper.specs.Intervals.{Reply, Yes, No}
-use Rattle.paper.specs.Refusals.{Answer, refused, answered}
+use mathlib.Core.List.{List, [], _∷_, _++_}
+use lib.ListN.{length}
+use Rattle.paper.specs.Intervals.{Reply}
+use Rattle.paper.specs.Refusals.{Answer}
+use Rattle.paper.specs.Calls.{Written}
+use Rattle.paper.specs.Exports.{Told, tell, inCount, inLineReply, inReply, inWritten, inPair}
 
--- 1 for yes and 0 for no
-abbrev pub replyWord : Reply → ℕ
-replyWord Yes = 1
-replyWord No = 0
+unfoldable pub toldWords : Told → List ℕ
+toldWords t = t .case ∷ (t .values ++ (t .number ∷ (t .place ∷ [])))
 
--- whether the words are a line check's reply and count
-unfoldable pub tellsLine : List ℕ → Answer (Reply × ℕ) → Bool
-tellsLine words (refused number place) = false
-tellsLine words (answered (reply, count)) = same words (replyWord reply ∷ (count ∷ []))
+-- the line check, with ports too, and the check by records: the count
+unfoldable pub lineWords : Answer (Reply × ℕ) → List ℕ
+lineWords x = toldWords (tell inLineReply x (0 ∷ []) 0 0)
 
--- .. an order check's reply
-unfoldable pub tellsOrder : List ℕ → Answer Reply → Bool
-tellsOrder words (refused number place) = false
-tellsOrder words (answered reply) = same words (replyWord reply ∷ [])
+-- the order check, with ports too: no value
+unfoldable pub orderWords : Answer Reply → List ℕ
+orderWords x = toldWords (tell inReply x [] 0 0)
+
+-- intervals and extension: how many records
+unfoldable pub writtenWords : Answer Written → List ℕ
+writtenWords x = toldWords (tell inWritten x (0 ∷ []) 0 0)
+
+-- preparing: K; nodes in records: how many nodes
+unfoldable pub countWords : Answer ℕ → List ℕ
+countWords x = toldWords (tell inCount x (0 ∷ []) 0 0)
+
+-- lines at a port: the first one's place in its node's list, and the count
+unfoldable pub pairWords : Answer (ℕ × ℕ) → List ℕ
+pairWords x = toldWords (tell inPair x (0 ∷ (0 ∷ [])) 0 0)
+
+-- .. and behind them a list with its length before it: all words of the buffer afterwards, or the lines that were viewed
+unfoldable pub withList : List ℕ → List ℕ → List ℕ
+withList told list = told ++ (length list ∷ list)

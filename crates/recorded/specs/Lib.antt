@@ -1,3 +1,4 @@
 pub mod Parts
 pub mod Laid
 pub mod Answers
+pub mod Questions

@@ -1,17 +1,11 @@
-// Answers held against the rest of a line, from a place on: the Rust's answer as the file writes it.
-use line_checker::line_check::LineAnswer;
-use topo_checker::TopoAnswer;
+// Words held against the rest of a line, from a place on.
 use words::field::wide;
 ghost use mathlib.Core.Path.{_≡_};
-ghost use mathlib.Core.List.{[], _∷_};
-ghost use mathlib.Core.Bool.{_&&_};
-ghost use Prim.Native.Nat.{_*_, _/_, _≤_};
+ghost use mathlib.Core.List.{_∷_};
+ghost use Prim.Native.Nat.{_≤_};
 ghost use lib.ListN.{length, take, drop};
-ghost use lib.Dec.{leb};
 ghost use Rattle.lists.specs.Lists.{same};
-ghost use Rattle.line_checker.specs.Said.{lineSaid};
-ghost use Rattle.topo_checker.specs.Said.{topoSaid};
-ghost use Rattle.recorded.specs.Answers.{tellsLine, tellsOrder};
+ghost use Rattle.recorded.specs.Answers.{withList};
 
 // Whether two lists of words are the same.
 pub fn same_words(xs: &[u16], ys: &[u16]) -> bool
@@ -30,31 +24,6 @@ pub fn same_words(xs: &[u16], ys: &[u16]) -> bool
     true
 }
 
-// Whether the rest is one word.
-pub fn is_word(words: &[u16], at: usize, word: u16) -> bool
-    requires { ⌜ at ≤ length (now words) ⌝ }
-    ensures { λ r. ⌜ r ≡ same (drop at (now (words .entry))) (word ∷ []) ⌝ }
-{
-    if words.len() - at != 1 {
-        return false;
-    }
-    words[at] == word
-}
-
-// Whether the rest is a reply with its count.
-fn is_counted(words: &[u16], at: usize, reply: u16, count: usize) -> bool
-    requires { ⌜ at ≤ length (now words) ⌝ }
-    ensures { λ r. ⌜ r ≡ same (drop at (now (words .entry))) (reply ∷ (count ∷ [])) ⌝ }
-{
-    if words.len() - at != 2 {
-        return false;
-    }
-    if words[at] != reply {
-        return false;
-    }
-    wide(words[at + 1]) == count
-}
-
 // Whether the rest is a list with its length before it.
 pub fn is_list(words: &[u16], at: usize, list: &[u16]) -> bool
     requires { ⌜ at ≤ length (now words) ⌝ }
@@ -69,44 +38,52 @@ pub fn is_list(words: &[u16], at: usize, list: &[u16]) -> bool
     same_words(&words[at + 1..], list)
 }
 
-// Whether the rest is what a line check answers; a refusal is never recorded.
-pub fn is_line_answer(words: &[u16], at: usize, answer: LineAnswer) -> bool
-    requires { ⌜ at ≤ length (now words) ⌝ }
-    ensures { λ r. ⌜ r ≡ tellsLine (drop at (now (words .entry))) (lineSaid answer) ⌝ }
+// A word as a number that is told.
+fn told_word(x: u16) -> u64
+    ensures { λ r. ⌜ r ≡ x ⌝ }
 {
-    match answer {
-        LineAnswer::Yes(count) => is_counted(words, at, 1, count),
-        LineAnswer::No(count) => is_counted(words, at, 0, count),
-        LineAnswer::Refused(_) => false,
-    }
+    x as u64
 }
 
-// Whether the rest is what an order check answers.
-pub fn is_order_answer(words: &[u16], at: usize, answer: TopoAnswer) -> bool
+// Whether the rest begins with the numbers told.
+fn begins(words: &[u16], at: usize, told: &[u64]) -> bool
     requires { ⌜ at ≤ length (now words) ⌝ }
-    ensures { λ r. ⌜ r ≡ tellsOrder (drop at (now (words .entry))) (topoSaid answer) ⌝ }
+    ensures { λ r. ⌜ r ≡ same (take (length (now (told .entry))) (drop at (now (words .entry)))) (now (told .entry)) ⌝ }
 {
-    match answer {
-        TopoAnswer::Yes => is_word(words, at, 1),
-        TopoAnswer::No => is_word(words, at, 0),
-        TopoAnswer::Refused(_) => false,
+    if words.len() - at < told.len() {
+        return false;
     }
+    let mut i = 0;
+    while i < told.len() {
+        if told_word(words[at + i]) != told[i] {
+            return false;
+        }
+        i += 1;
+    }
+    true
 }
 
-// Whether the rest is 1 and the first `count` records of a buffer.
-pub fn is_given(words: &[u16], at: usize, buffer: &[u16], count: usize) -> bool
+// Whether the rest is the numbers told.
+pub fn is_told(words: &[u16], at: usize, told: &[u64]) -> bool
     requires { ⌜ at ≤ length (now words) ⌝ }
-    ensures { λ r. ⌜ r ≡ (leb count (length (now (buffer .entry)) / 3)
-        && same (drop at (now (words .entry))) (1 ∷ (3 * count ∷ take (3 * count) (now (buffer .entry))))) ⌝ }
+    ensures { λ r. ⌜ r ≡ same (drop at (now (words .entry))) (now (told .entry)) ⌝ }
 {
-    if count > buffer.len() / 3 {
+    if words.len() - at != told.len() {
         return false;
     }
-    if at == words.len() {
+    begins(words, at, told)
+}
+
+// Whether the rest is the numbers told, and behind them a list with its length before it.
+pub fn is_told_with(words: &[u16], at: usize, told: &[u64], list: &[u16]) -> bool
+    requires { ⌜ at ≤ length (now words) ⌝ }
+    ensures { λ r. ⌜ r ≡ same (drop at (now (words .entry))) (withList (now (told .entry)) (now (list .entry))) ⌝ }
+{
+    if words.len() - at < told.len() {
         return false;
     }
-    if words[at] != 1 {
+    if !begins(words, at, told) {
         return false;
     }
-    is_list(words, at + 1, &buffer[0..3 * count])
+    is_list(words, at + told.len(), list)
 }

@@ -1,4 +1,5 @@
 // The file of recorded answers: the parts of its lines, its maps laid out as bytes, its tables, and answers held against what it says.
+pub mod answers;
 pub mod comparing;
 pub mod laying;
 pub mod line_parts;

@@ -1,16 +1,20 @@
-// A line with a map: N, L, the fields of all nodes and links, and K.
+// A line with a map: N, L, the fields of all nodes and links, and what preparing answers.
+use crate::answers::is_prepared;
 use crate::laying::lay_map;
-use convex::prepare::Prepared;
 use convex::prepare::prepare;
 use words::field::wide;
+ghost use mathlib.Core.Bool.{true};
+ghost use mathlib.Core.Path.{_≡_};
 ghost use Prim.Native.Nat.{_≤_};
 ghost use lib.ListN.{length};
+ghost use Rattle.paper.specs.Calls.{prepare as prepared};
+ghost use Rattle.recorded.specs.Questions.{samePrepared};
 
-// Lays the line's map from the first byte on, and answers how many bytes it has: none if the line is too short or too long, or the map too large.
+// Lays the line's map from the first byte on, and answers how many bytes it has: none if the line is too short or the map too large.
 pub fn lay_line(words: &[u16], map: &mut [u8]) -> usize
     ensures { λ r. ⌜ r ≤ length (now (map .entry)) ⌝ }
 {
-    if words.len() < 4 {
+    if words.len() < 3 {
         return 0;
     }
     let n = wide(words[1]);
@@ -22,7 +26,7 @@ pub fn lay_line(words: &[u16], map: &mut [u8]) -> usize
         return 0;
     }
     let end = 3 + 2 * n + 4 * l;
-    if end + 1 != words.len() {
+    if end > words.len() {
         return 0;
     }
     let size = 4 * n + 8 * l + 12;
@@ -33,14 +37,18 @@ pub fn lay_line(words: &[u16], map: &mut [u8]) -> usize
     size
 }
 
-// Whether preparing the map answers the line's last word, K.
-pub fn prepares_to(map: &[u8], area: &mut [u16], words: &[u16]) -> bool {
-    if words.len() == 0 {
+// Whether preparing the map answers the line's rest.
+pub fn prepares_to(map: &[u8], area: &mut [u16], words: &[u16]) -> bool
+    ensures { λ r. ⌜ r ≡ samePrepared (now (words .entry)) (now (map .entry)) (now (area .entry)) ⌝ }
+    ensures { λ r. ⌜ (r ≡ true → now (area .exit) ≡ prepared (now (map .entry)) (now (area .entry)) .area) ⌝ }
+{
+    if words.len() < 3 {
+        return false;
+    }
+    let at = 3 + 2 * wide(words[1]) + 4 * wide(words[2]);
+    if at > words.len() {
         return false;
     }
     let answer = prepare(map, area);
-    let Prepared::Lines(count) = answer else {
-        return false;
-    };
-    count == wide(words[words.len() - 1])
+    is_prepared(words, at, answer)
 }

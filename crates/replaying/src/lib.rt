@@ -1,14 +1,15 @@
-// The recorded answers of the Rust, replayed: `answers.txt` has a question and the Rust's answer on each line, in decimal numbers, and its head
-// says how it was made and what its lines mean. Every call is asked again, and its answer held against the recorded one.
+// Recorded answers, replayed: `answers.txt` has a question and its answer on each line, in decimal numbers, and its head says how it was made and
+// what its lines mean. Answers are the Rust's, refusals a plain reading of 01. Every call is asked again, and its answer held against the recorded one.
+mod lent;
 mod turns;
 
+use lent::area_room;
 use libc::STDOUT_FILENO;
 use tallying::count_turn;
 use tallying::tally;
 use tallying::write_tally;
 use text::parts::line_end;
 use turns::Turn;
-use turns::area_room;
 use turns::map_room;
 use turns::replay_line;
 use turns::start;
@@ -16,7 +17,7 @@ use turns::word_room;
 ghost use mathlib.Core.Path.{_≡_};
 ghost use lib.ListN.{length};
 
-// Room for the file, which has some 300,000 bytes.
+// Room for the file, which has some 360,000 bytes.
 fn file_room() -> [u8; 400000]
     ensures { λ r. ⌜ length r ≡ 400000 ⌝ }
 {
@@ -42,12 +43,13 @@ fn tell(turn: Turn, number: usize, asked: &mut [usize], differing: &mut [usize])
     }
 }
 
-// Replays line by line, with rooms for a line's words, the map and its area, and answers the checksum.
+// Replays line by line, with rooms for a line's words, the map, its area and what that must be, and answers the checksum.
 fn replay_lines(
     file: &[u8],
     words: &mut [u16],
     map: &mut [u8],
     area: &mut [u16],
+    kept: &mut [u16],
     asked: &mut [usize],
     differing: &mut [usize],
 ) -> usize {
@@ -56,7 +58,7 @@ fn replay_lines(
     let mut number: usize = 0;
     while at < file.len() {
         let end = line_end(file, at);
-        turn = replay_line(&file[at..end], turn, words, map, area);
+        turn = replay_line(&file[at..end], turn, words, map, area, kept);
         number += 1;
         tell(turn, number, asked, differing);
         at = end + 1;
@@ -69,6 +71,7 @@ fn replay(file: &[u8]) {
     let mut words = word_room();
     let mut map = map_room();
     let mut area = area_room();
+    let mut kept = area_room();
     let mut asked = tally();
     let mut differing = tally();
     let sum = replay_lines(
@@ -76,6 +79,7 @@ fn replay(file: &[u8]) {
         &mut words,
         &mut map,
         &mut area,
+        &mut kept,
         &mut asked,
         &mut differing,
     );

@@ -1,4 +1,7 @@
 // One line of the file replayed: a map is laid out and prepared, any other line is asked on the map that was laid out last.
+use crate::lent::keep;
+use crate::lent::mark_scratch;
+use crate::lent::spoil;
 use list_questions::same_intervals;
 use list_questions::same_line_check;
 use list_questions::same_line_ports;
@@ -8,6 +11,7 @@ use list_questions::same_port_lines;
 use record_questions::same_extension;
 use record_questions::same_nodes;
 use record_questions::same_record_check;
+use recorded::comparing::same_words;
 use recorded::map_line::lay_line;
 use recorded::map_line::prepares_to;
 use recorded::sections::same_section;
@@ -45,13 +49,6 @@ pub fn map_room() -> [u8; 18444]
     ensures { λ r. ⌜ length r ≡ 18444 ⌝ }
 {
     [0u8; 18444]
-}
-
-// Room for the largest W.
-pub fn area_room() -> [u16; 31751]
-    ensures { λ r. ⌜ length r ≡ 31751 ⌝ }
-{
-    [0u16; 31751]
 }
 
 // Room for the numbers of a line of 65,000 bytes.
@@ -99,9 +96,6 @@ fn ask_list(kind: usize, words: &[u16], map: &[u8], area: &mut [u16]) -> bool {
 
 // Asks a line's question.
 fn ask(kind: usize, words: &[u16], map: &[u8], area: &mut [u16]) -> bool {
-    if kind < 8 {
-        return same_section(kind, words, map, area);
-    }
     if kind == 10 {
         return same_record_check(words, map, area);
     }
@@ -114,6 +108,29 @@ fn ask(kind: usize, words: &[u16], map: &[u8], area: &mut [u16]) -> bool {
     ask_list(kind, words, map, area)
 }
 
+// Asks a line's question with a scratch that is not 0, and compares the whole area with what preparing left. A table is only looked at.
+fn ask_again(kind: usize, words: &[u16], map: &[u8], area: &mut [u16], kept: &[u16]) -> bool {
+    if kind < 8 {
+        return same_section(kind, words, map, area);
+    }
+    mark_scratch(map, area);
+    if !ask(kind, words, map, area) {
+        return false;
+    }
+    same_words(area, kept)
+}
+
+// Prepares a line's map in an area that is marked, and keeps what it left.
+fn prepare_again(words: &[u16], map: &[u8], area: &mut [u16], kept: &mut [u16]) -> bool {
+    spoil(area);
+    let answers = prepares_to(map, area, words);
+    let stands = keep(map, area, kept);
+    if !answers {
+        return false;
+    }
+    stands
+}
+
 // A line's kind, or 0 if there is no such kind.
 fn known(kind: usize) -> usize {
     if kind > 16 {
@@ -123,14 +140,20 @@ fn known(kind: usize) -> usize {
 }
 
 // Replays a line by its words, of which there is one at least.
-fn replay_words(words: &[u16], before: Turn, map: &mut [u8], area: &mut [u16]) -> Turn
+fn replay_words(
+    words: &[u16],
+    before: Turn,
+    map: &mut [u8],
+    area: &mut [u16],
+    kept: &mut [u16],
+) -> Turn
     requires { ⌜ 1 ≤ length (now words) ⌝ }
 {
     let sum = add_words(before.sum, words);
     let kind = known(wide(words[0]));
     if kind == 1 {
         let size = lay_line(words, map);
-        let agrees = prepares_to(&map[0..size], area, words);
+        let agrees = prepare_again(words, &map[0..size], area, kept);
         return Turn {
             size,
             sum,
@@ -143,7 +166,7 @@ fn replay_words(words: &[u16], before: Turn, map: &mut [u8], area: &mut [u16]) -
     if size > map.len() {
         return unread(before);
     }
-    let agrees = ask(kind, words, &map[0..size], area);
+    let agrees = ask_again(kind, words, &map[0..size], area, kept);
     Turn {
         size,
         sum,
@@ -182,6 +205,7 @@ pub fn replay_line(
     words: &mut [u16],
     map: &mut [u8],
     area: &mut [u16],
+    kept: &mut [u16],
 ) -> Turn {
     if line.len() == 0 {
         return unread(before);
@@ -199,5 +223,5 @@ pub fn replay_line(
     if count == 0 {
         return unread(before);
     }
-    replay_words(&words[0..count], before, map, area)
+    replay_words(&words[0..count], before, map, area, kept)
 }

@@ -5,14 +5,10 @@
 //!
 //! For a seed and a count the output is always the same.
 
-mod asker;
 mod bench;
-mod call;
 mod figures;
 mod kinds;
 mod library;
-mod lists;
-mod reading;
 mod subject;
 mod text;
 mod wishes;
@@ -22,6 +18,7 @@ use bench::{Bench, Compared};
 use kinds::small::SmallMaps;
 use kinds::{drawn, examples, limits, maps, paper, small, tables};
 use oracle::random::Random;
+use plain::{asker, call, lists, reading};
 use std::process::ExitCode;
 use std::time::{Duration, Instant};
 use wishes::{Until, Wishes};

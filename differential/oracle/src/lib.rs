@@ -6,8 +6,7 @@
 //! - [`recording`], [`asking`]: what is recorded of a map, and how its questions are chosen;
 //! - [`text`], [`antt`], [`figures`]: the two formats and the summary;
 //! - [`map_bytes`], [`preparing`]: the map as bytes and 01's preparing, on words;
-//! - [`prepare_cases`], [`prepare_report`]: the stored cases of preparing, and what is to be written of each;
-//! - [`replay`]: the recorded answers that the program `replay` holds the port against.
+//! - [`prepare_cases`], [`prepare_report`]: the stored cases of preparing, and what is to be written of each.
 
 pub mod antt;
 pub mod asking;
@@ -20,6 +19,5 @@ pub mod prepare_report;
 pub mod preparing;
 pub mod random;
 pub mod recording;
-pub mod replay;
 pub mod step_map;
 pub mod text;

@@ -2,11 +2,9 @@
 //!
 //! `record --text|--antt [--seed S] [--maps M] [--steps N] [--lists L] [--ports P]`
 //! `record --prepare FOLDER`
-//! `record --replay FOLDER [the same words as --text]`
 //!
 //! The grammar of the text stands at the head of `text.rs`. Figures go to standard error. With `--prepare` it writes the stored
-//! cases of preparing, and what is to be written of them, to the folder of the program `prepare_run`; with `--replay` the file of
-//! answers of the program `replay`, and what that is to write.
+//! cases of preparing, and what is to be written of them, to the folder of the program `prepare_run`.
 
 use oracle::asking::{record, Amount};
 use oracle::drawing;
@@ -14,7 +12,7 @@ use oracle::figures::Figures;
 use oracle::prepare_cases::Cases;
 use oracle::random::Random;
 use oracle::recording::Recording;
-use oracle::{antt, replay, text};
+use oracle::{antt, text};
 use std::path::Path;
 use std::process::ExitCode;
 
@@ -24,8 +22,7 @@ const USAGE: &str = "record --text|--antt [--seed S] [--maps M] [--steps N] [--l
   --steps N   nodes in a map, at most (7)
   --lists L   lists of nodes a map, and as many with ports (4; for --antt 2)
   --ports P   ports a map whose lines are asked, at most (all; for --antt 4)
-record --prepare FOLDER
-record --replay FOLDER [the same words; 60 maps, 60 steps, 7 lists, 12 ports if not said]";
+record --prepare FOLDER";
 
 /// Limits of document 01 that a random map of so many steps surely keeps.
 const MOST_STEPS: usize = 100;
@@ -34,7 +31,6 @@ const MOST_STEPS: usize = 100;
 enum Format {
     Text,
     Antt,
-    Replay,
 }
 
 struct Wishes {
@@ -53,7 +49,6 @@ fn main() -> ExitCode {
         [mode, folder] if mode == "--prepare" => {
             Cases::all().write(Path::new(folder)).map_err(|problem| format!("{folder}: {problem}"))
         }
-        [mode, folder, words @ ..] if mode == "--replay" => write_replay(mode, folder, words),
         _ => wishes(&words).map(|wishes| run(&wishes)),
     };
     match done {
@@ -70,13 +65,11 @@ fn wishes(words: &[String]) -> Result<Wishes, String> {
     let format = match words.first().map(String::as_str) {
         Some("--text") => Format::Text,
         Some("--antt") => Format::Antt,
-        Some("--replay") => Format::Replay,
-        _ => return Err("the first word is --text, --antt, --prepare or --replay".to_string()),
+        _ => return Err("the first word is --text, --antt or --prepare".to_string()),
     };
     let (maps, steps, lists, ports) = match format {
         Format::Text => (20, 7, 4, usize::MAX),
         Format::Antt => (20, 7, 2, 4),
-        Format::Replay => (60, 60, 7, 12),
     };
     let amount = Amount { lists, ports };
     let mut wishes = Wishes { format, seed: 1, maps, steps, amount, command: words.join(" ") };
@@ -111,17 +104,7 @@ fn run(wishes: &Wishes) {
     match wishes.format {
         Format::Text => print_text(&recordings),
         Format::Antt => print_antt(wishes, &recordings),
-        Format::Replay => unreachable!("written to a folder"),
     }
-}
-
-fn write_replay(mode: &str, folder: &str, words: &[String]) -> Result<(), String> {
-    let wishes = wishes(&[&[mode.to_string()], words].concat())?;
-    let Wishes { seed, maps, steps, amount, .. } = wishes;
-    let drawn = replay::Drawn { seed, maps, steps, amount };
-    let recordings = replay::recordings(&drawn);
-    tell_figures(&recordings);
-    replay::write(Path::new(folder), &drawn, &recordings).map_err(|problem| format!("{folder}: {problem}"))
 }
 
 fn tell_figures(recordings: &[Recording]) {

@@ -1,103 +1,104 @@
--- `list_questions::same_intervals` is safe: the list lies within the line.
--- Rests on recorded's Bounds.
+-- `list_questions::same_intervals` meets its contract: the lists stand one behind the other, the buffer's words are lent in a room, and behind them stand the answer and the buffer.
+-- Rests on recorded's Asked and Bounds.
 use borrow.Author.Needs.{needs}
+use native.Mathlib.Omega.{arith}
+use Prim.Native.Nat.{ℕ}
+use mathlib.Core.Path.{refl, ap, _∙_}
+use mathlib.Core.Bool.{Bool}
+use mathlib.Core.List.{List}
+use lib.ListN.{getD, drop}
+use Rattle.lists.specs.Lists.{same}
+use Rattle.paper.specs.Calls.{LeftWith, Written, getIntervalsFromNodes}
+use Rattle.recorded.specs.Parts.{behind, listAt}
+use Rattle.recorded.specs.Answers.{withList, writtenWords}
+use Rattle.recorded.specs.Questions.{sameIntervals}
 use Rattle.recorded.proofs.Bounds.{within}
+use Rattle.recorded.proofs.Asked.{not-true, no-records, no-room, has-room, nowhere, lacks, lacks-second, ends, lent, part-length, second-size, two-with}
 use Rattle.list_questions.proofs.same_intervals.Statement.{statement}
 use Rattle.list_questions.proofs.same_intervals.Tie as tie
 
-list-at-requires : tie.Need-list-at-requires
-list-at-requires c κs = search needs
-
-enum-known-list : tie.Need-enum-known-list
-enum-known-list c = search needs
-
-enum-told : tie.Need-enum-told
-enum-told c = search needs
-
 returns : tie.Need-returns
-returns c = search needs
-
-record-room-requires : tie.Need-record-room-requires
-record-room-requires c κs = search needs
-
-mul-get-intervals-from-nodes : tie.Need-mul-get-intervals-from-nodes
-mul-get-intervals-from-nodes c = let part = within _ _ (c .before .before .before .before .before .list-at .ensures) (c .before .before .before .list .given .1) in search needs
-
-sub-get-intervals-from-nodes : tie.Need-sub-get-intervals-from-nodes
-sub-get-intervals-from-nodes c = let part = within _ _ (c .before .before .before .before .before .list-at .ensures) (c .before .before .before .list .given .1) in search needs
-
-part-get-intervals-from-nodes-start : tie.Need-part-get-intervals-from-nodes-start
-part-get-intervals-from-nodes-start c = let part = within _ _ (c .before .before .before .before .before .list-at .ensures) (c .before .before .before .list .given .1) in search needs
-
-part-get-intervals-from-nodes-end : tie.Need-part-get-intervals-from-nodes-end
-part-get-intervals-from-nodes-end c = let part = within _ _ (c .before .before .before .before .before .list-at .ensures) (c .before .before .before .list .given .1) in search needs
-
-slice-aggregate-get-intervals-from-nodes : tie.Need-slice-aggregate-get-intervals-from-nodes
-slice-aggregate-get-intervals-from-nodes c = search needs
-
-get-intervals-from-nodes-requires : tie.Need-get-intervals-from-nodes-requires
-get-intervals-from-nodes-requires c κs = search needs
-
-enum-known-answer : tie.Need-enum-known-answer
-enum-known-answer c = search needs
-
-slice-aggregate-is-given : tie.Need-slice-aggregate-is-given
-slice-aggregate-is-given c = search needs
-
-is-given-requires : tie.Need-is-given-requires
-is-given-requires c κs = let part = within _ _ (c .before .before .before .before .before .before .before .before .before .before .before .before .before .before .before .list-at .ensures) (c .before .before .before .before .before .before .before .before .before .before .before .before .before .list .given .1) in search needs
-
-enum-told-2 : tie.Need-enum-told-2
-enum-told-2 c = search needs
-
-is-word-requires : tie.Need-is-word-requires
-is-word-requires c κs = let part = within _ _ (c .before .before .before .before .before .before .before .before .before .before .before .before .before .list-at .ensures) (c .before .before .before .before .before .before .before .before .before .before .before .list .given .1) in search needs
-
-enum-told-3 : tie.Need-enum-told-3
-enum-told-3 c = search needs
-
-same-length : tie.Need-same-length
-same-length c = search needs
+unfolding sameIntervals
+returns c =
+    let start = c .before .before .before .before .before .before .args in
+    let line = start .words .now in (
+      nowhere (getD line (behind line 1) 0) 7680 _
+          (no-records line (behind line (behind line 1)) _ _ (omega (arith, lacks line 1 (c .before .before .list-at .ensures) (c .enum-told .given .1)))),
+      not-true,
+    )
 
 returns-2 : tie.Need-returns-2
-returns-2 c = search needs
+unfolding sameIntervals
+returns-2 c =
+    let start = c .before .before .before .before .before .before .before .before .before .before .args in
+    let line = start .words .now in (
+      nowhere (getD line (behind line 1) 0) 7680 _
+          (no-records line (behind line (behind line 1)) _ _ (omega (arith, lacks-second line 1 (c .before .before .before .before .before .before .list-at .ensures) (c .before .before .before .before .list .given .1) (c .before .before .list-at2 .ensures) (c .enum-told2 .given .1)))),
+      not-true,
+    )
 
-same-length-2 : tie.Need-same-length-2
-same-length-2 c = search needs
+sub-size : tie.Need-sub-size
+sub-size c = let part = within _ _ (c .before .before .before .list-at2 .ensures) (c .before .buffer .given .1) in search needs
 
 returns-3 : tie.Need-returns-3
-returns-3 c = search needs
+unfolding sameIntervals
+returns-3 c =
+    let start = c .before .before .before .before .before .before .before .before .before .before .before .before .args in
+    let line = start .words .now in
+    (no-room (getD line (behind line 1) 0) 7680 _ (omega (arith, second-size line 1 (c .before .before .before .before .before .before .before .before .list-at .ensures) (c .before .before .before .before .before .before .list .given .1) (c .before .before .before .before .list-at2 .ensures) (c .before .before .buffer .given .1))), not-true)
 
-same-length-3 : tie.Need-same-length-3
-same-length-3 c = search needs
+mul-copy-out : tie.Need-mul-copy-out
+mul-copy-out c = let part = within _ _ (c .before .before .before .before .before .list-at2 .ensures) (c .before .before .before .buffer .given .1) in search needs
+
+sub-copy-out : tie.Need-sub-copy-out
+sub-copy-out c = let part = within _ _ (c .before .before .before .before .before .list-at2 .ensures) (c .before .before .before .buffer .given .1) in search needs
+
+part-copy-out-start : tie.Need-part-copy-out-start
+part-copy-out-start c = let part = within _ _ (c .before .before .before .before .before .list-at2 .ensures) (c .before .before .before .buffer .given .1) in search needs
+
+part-copy-out-end : tie.Need-part-copy-out-end
+part-copy-out-end c = let part = within _ _ (c .before .before .before .before .before .list-at2 .ensures) (c .before .before .before .buffer .given .1) in search needs
+
+copy-out-requires : tie.Need-copy-out-requires
+copy-out-requires c κs =
+    let start = c .before .before .before .before .before .before .before .before .before .before .before .before .before .before .before .args in
+    let line = start .words .now in
+    (omega (arith, part-length line _ (c .before .before .before .before .before .before .before .list-at2 .ensures) (c .before .before .before .before .before .buffer .given .1)), omega (arith, c .before .before .record-room .ensures))
+
+mul-intervals-into : tie.Need-mul-intervals-into
+mul-intervals-into c = let part = within _ _ (c .before .before .before .before .before .before .before .before .before .before .before .before .before .before .list-at .ensures) (c .before .before .before .before .before .before .before .before .before .before .before .before .list .given .1) in search needs
+
+sub-intervals-into : tie.Need-sub-intervals-into
+sub-intervals-into c = let part = within _ _ (c .before .before .before .before .before .before .before .before .before .before .before .before .before .before .list-at .ensures) (c .before .before .before .before .before .before .before .before .before .before .before .before .list .given .1) in search needs
+
+part-intervals-into-start : tie.Need-part-intervals-into-start
+part-intervals-into-start c = let part = within _ _ (c .before .before .before .before .before .before .before .before .before .before .before .before .before .before .list-at .ensures) (c .before .before .before .before .before .before .before .before .before .before .before .before .list .given .1) in search needs
+
+part-intervals-into-end : tie.Need-part-intervals-into-end
+part-intervals-into-end c = let part = within _ _ (c .before .before .before .before .before .before .before .before .before .before .before .before .before .before .list-at .ensures) (c .before .before .before .before .before .before .before .before .before .before .before .before .list .given .1) in search needs
+
+intervals-into-requires : tie.Need-intervals-into-requires
+intervals-into-requires c κs = let part = within _ _ (c .before .before .before .before .before .before .before .before .before .before .before .before .list-at2 .ensures) (c .before .before .before .before .before .before .before .before .before .before .buffer .given .1) in search needs
 
 returns-4 : tie.Need-returns-4
-returns-4 c = search needs
+unfolding sameIntervals
+returns-4 c =
+    let start = c .before .before .before .before .before .before .before .before .before .before .before .before .before .before .before .before .before .before .before .before .before .before .before .before .args in
+    let line = start .words .now in
+    let b = start .map .now in
+    let a = start .area .now in (
+      has-room (getD line (behind line 1) 0) 7680 _ (omega (arith, second-size line 1 (c .before .before .before .before .before .before .before .before .before .before .before .before .before .before .before .before .before .before .before .before .list-at .ensures) (c .before .before .before .before .before .before .before .before .before .before .before .before .before .before .before .before .before .before .list .given .1) (c .before .before .before .before .before .before .before .before .before .before .before .before .before .before .before .before .list-at2 .ensures) (c .before .before .before .before .before .before .before .before .before .before .before .before .before .before .buffer .given .1)))
+          (two-with line 1 (c .before .before .before .before .before .before .before .before .before .before .before .before .before .before .before .before .before .before .before .before .list-at .ensures) (c .before .before .before .before .before .before .before .before .before .before .before .before .before .before .before .before .before .before .list .given .1) (c .before .before .before .before .before .before .before .before .before .before .before .before .before .before .before .before .list-at2 .ensures) (c .before .before .before .before .before .before .before .before .before .before .before .before .before .before .buffer .given .1) writtenWords (λ (l m : List ℕ). getIntervalsFromNodes b a l m)
+          (lent line _ (c .before .before .before .before .before .before .before .before .before .before .before .before .before .before .before .before .list-at2 .ensures) (c .before .before .before .before .before .before .before .before .before .before .before .before .before .before .buffer .given .1) (c .before .before .before .before .before .before .before .before .before .before .before .record-room .result) (c .before .before .before .before .before .before .before .before .before .before .before .record-room .ensures) (omega arith) (c .before .before .before .before .before .before .before .before .copy-out .ensures))
+          (c .before .before .before .intervals-into .ensures .0)),
+      (λ _. c .before .before .before .intervals-into .ensures .1),
+    )
 
 pub same-intervals-spec : {M : Type 1} → statement M
 same-intervals-spec =
     tie.close
     (tie.spec
-    list-at-requires
-    enum-known-list
-    enum-told
-    returns
-    record-room-requires
-    mul-get-intervals-from-nodes
-    sub-get-intervals-from-nodes
-    part-get-intervals-from-nodes-start
-    part-get-intervals-from-nodes-end
-    slice-aggregate-get-intervals-from-nodes
-    get-intervals-from-nodes-requires
-    enum-known-answer
-    slice-aggregate-is-given
-    is-given-requires
-    enum-told-2
-    is-word-requires
-    enum-told-3
-    same-length
-    returns-2
-    same-length-2
-    returns-3
-    same-length-3
-    returns-4)
+    (λ c κs. search needs) (search needs) (search needs) returns (λ c κs. search needs) (search needs) (search needs) returns-2 sub-size
+    returns-3 (λ c κs. search needs) mul-copy-out sub-copy-out part-copy-out-start part-copy-out-end (search needs) copy-out-requires
+    mul-intervals-into sub-intervals-into part-intervals-into-start part-intervals-into-end (search needs) (search needs) (search needs)
+    intervals-into-requires (search needs) returns-4)

@@ -1,107 +1,114 @@
--- `record_questions::same_nodes` is safe: the records lie within the line.
--- Rests on recorded's Bounds.
+-- `record_questions::same_nodes` meets its contract: the lists stand one behind the other, the buffer's words are lent in a room, and behind them stand the answer and the buffer.
+-- Rests on recorded's Asked and Bounds.
 use borrow.Author.Needs.{needs}
+use native.Mathlib.Omega.{arith}
+use Prim.Native.Nat.{ℕ}
+use mathlib.Core.Path.{refl, ap, _∙_}
+use mathlib.Core.Bool.{Bool}
+use mathlib.Core.List.{List}
+use lib.ListN.{getD, drop}
+use Rattle.lists.specs.Lists.{same}
+use Rattle.paper.specs.Calls.{LeftWith, Written, nodesInIntervals}
+use Rattle.recorded.specs.Parts.{behind, listAt}
+use Rattle.recorded.specs.Answers.{withList, countWords}
+use Rattle.recorded.specs.Questions.{sameNodes}
 use Rattle.recorded.proofs.Bounds.{within}
+use Rattle.recorded.proofs.Asked.{not-true, no-nodes, no-room, has-room, nowhere, lacks, lacks-second, ends, lent, part-length, second-size, two-with}
 use Rattle.record_questions.proofs.same_nodes.Statement.{statement}
 use Rattle.record_questions.proofs.same_nodes.Tie as tie
 
-list-at-requires : tie.Need-list-at-requires
-list-at-requires c κs = search needs
-
-enum-known-records : tie.Need-enum-known-records
-enum-known-records c = search needs
-
-enum-told : tie.Need-enum-told
-enum-told c = search needs
-
 returns : tie.Need-returns
-returns c = search needs
-
-record-room-requires : tie.Need-record-room-requires
-record-room-requires c κs = search needs
-
-sub-count : tie.Need-sub-count
-sub-count c = let part = within _ _ (c .before .before .before .before .list-at .ensures) (c .before .before .records .given .1) in search needs
-
-mul-nodes-in-intervals : tie.Need-mul-nodes-in-intervals
-mul-nodes-in-intervals c = let part = within _ _ (c .before .before .before .before .before .list-at .ensures) (c .before .before .before .records .given .1) in search needs
-
-sub-nodes-in-intervals : tie.Need-sub-nodes-in-intervals
-sub-nodes-in-intervals c = let part = within _ _ (c .before .before .before .before .before .list-at .ensures) (c .before .before .before .records .given .1) in search needs
-
-part-nodes-in-intervals-start : tie.Need-part-nodes-in-intervals-start
-part-nodes-in-intervals-start c = let part = within _ _ (c .before .before .before .before .before .list-at .ensures) (c .before .before .before .records .given .1) in search needs
-
-part-nodes-in-intervals-end : tie.Need-part-nodes-in-intervals-end
-part-nodes-in-intervals-end c = let part = within _ _ (c .before .before .before .before .before .list-at .ensures) (c .before .before .before .records .given .1) in search needs
-
-slice-aggregate-nodes-in-intervals : tie.Need-slice-aggregate-nodes-in-intervals
-slice-aggregate-nodes-in-intervals c = search needs
-
-nodes-in-intervals-requires : tie.Need-nodes-in-intervals-requires
-nodes-in-intervals-requires c κs = search needs
-
-enum-known-answer : tie.Need-enum-known-answer
-enum-known-answer c = search needs
-
-enum-told-2 : tie.Need-enum-told-2
-enum-told-2 c = search needs
-
-same-length : tie.Need-same-length
-same-length c = search needs
+unfolding sameNodes
+returns c =
+    let start = c .before .before .before .before .before .before .args in
+    let line = start .words .now in (
+      nowhere (getD line (behind line 2) 0) 7680 _
+          (no-nodes line (behind line (behind line 2)) _ _ (omega (arith, lacks line 2 (c .before .before .list-at .ensures) (c .enum-told .given .1)))),
+      not-true,
+    )
 
 returns-2 : tie.Need-returns-2
-returns-2 c = search needs
+unfolding sameNodes
+returns-2 c =
+    let start = c .before .before .before .before .before .before .before .before .before .before .args in
+    let line = start .words .now in (
+      nowhere (getD line (behind line 2) 0) 7680 _
+          (no-nodes line (behind line (behind line 2)) _ _ (omega (arith, lacks-second line 2 (c .before .before .before .before .before .before .list-at .ensures) (c .before .before .before .before .records .given .1) (c .before .before .list-at2 .ensures) (c .enum-told2 .given .1)))),
+      not-true,
+    )
 
-same-length-2 : tie.Need-same-length-2
-same-length-2 c = search needs
+sub-size : tie.Need-sub-size
+sub-size c = let part = within _ _ (c .before .before .before .list-at2 .ensures) (c .before .buffer .given .1) in search needs
 
 returns-3 : tie.Need-returns-3
-returns-3 c = search needs
+unfolding sameNodes
+returns-3 c =
+    let start = c .before .before .before .before .before .before .before .before .before .before .before .before .args in
+    let line = start .words .now in
+    (no-room (getD line (behind line 2) 0) 7680 _ (omega (arith, second-size line 2 (c .before .before .before .before .before .before .before .before .list-at .ensures) (c .before .before .before .before .before .before .records .given .1) (c .before .before .before .before .list-at2 .ensures) (c .before .before .buffer .given .1))), not-true)
 
-sub-is-list : tie.Need-sub-is-list
-sub-is-list c = search needs
+mul-copy-out : tie.Need-mul-copy-out
+mul-copy-out c = let part = within _ _ (c .before .before .before .before .before .list-at2 .ensures) (c .before .before .before .buffer .given .1) in search needs
 
-part-is-list-start : tie.Need-part-is-list-start
-part-is-list-start c = search needs
+sub-copy-out : tie.Need-sub-copy-out
+sub-copy-out c = let part = within _ _ (c .before .before .before .before .before .list-at2 .ensures) (c .before .before .before .buffer .given .1) in search needs
 
-part-is-list-end : tie.Need-part-is-list-end
-part-is-list-end c = search needs
+part-copy-out-start : tie.Need-part-copy-out-start
+part-copy-out-start c = let part = within _ _ (c .before .before .before .before .before .list-at2 .ensures) (c .before .before .before .buffer .given .1) in search needs
 
-is-list-requires : tie.Need-is-list-requires
-is-list-requires c κs = let part = within _ _ (c .before .before .before .before .before .before .before .before .before .before .before .before .before .before .before .before .before .list-at .ensures) (c .before .before .before .before .before .before .before .before .before .before .before .before .before .before .before .records .given .1) in search needs
+part-copy-out-end : tie.Need-part-copy-out-end
+part-copy-out-end c = let part = within _ _ (c .before .before .before .before .before .list-at2 .ensures) (c .before .before .before .buffer .given .1) in search needs
 
-same-length-3 : tie.Need-same-length-3
-same-length-3 c = search needs
+copy-out-requires : tie.Need-copy-out-requires
+copy-out-requires c κs =
+    let start = c .before .before .before .before .before .before .before .before .before .before .before .before .before .before .before .args in
+    let line = start .words .now in
+    (omega (arith, part-length line _ (c .before .before .before .before .before .before .before .list-at2 .ensures) (c .before .before .before .before .before .buffer .given .1)), omega (arith, c .before .before .record-room .ensures))
+
+mul-nodes-into : tie.Need-mul-nodes-into
+mul-nodes-into c = let part = within _ _ (c .before .before .before .before .before .before .before .before .before .before .before .before .before .before .list-at .ensures) (c .before .before .before .before .before .before .before .before .before .before .before .before .records .given .1) in search needs
+
+sub-nodes-into : tie.Need-sub-nodes-into
+sub-nodes-into c = let part = within _ _ (c .before .before .before .before .before .before .before .before .before .before .before .before .before .before .list-at .ensures) (c .before .before .before .before .before .before .before .before .before .before .before .before .records .given .1) in search needs
+
+part-nodes-into-start : tie.Need-part-nodes-into-start
+part-nodes-into-start c = let part = within _ _ (c .before .before .before .before .before .before .before .before .before .before .before .before .before .before .list-at .ensures) (c .before .before .before .before .before .before .before .before .before .before .before .before .records .given .1) in search needs
+
+part-nodes-into-end : tie.Need-part-nodes-into-end
+part-nodes-into-end c = let part = within _ _ (c .before .before .before .before .before .before .before .before .before .before .before .before .before .before .list-at .ensures) (c .before .before .before .before .before .before .before .before .before .before .before .before .records .given .1) in search needs
+
+shared-slice-read-wide : tie.Need-shared-slice-read-wide
+shared-slice-read-wide c =
+    let start = c .before .before .before .before .before .before .before .before .before .before .before .before .before .before .before .before .before .before .before .before .args in
+    let line = start .words .now in
+    let part = within _ _ (c .before .before .before .before .before .before .before .before .before .before .before .before .before .before .before .before .list-at .ensures) (c .before .before .before .before .before .before .before .before .before .before .before .before .before .before .records .given .1) in omega (arith, part .inside, ends line 2 (c .before .before .before .before .before .before .before .before .before .before .before .before .before .before .before .before .list-at .ensures) (c .before .before .before .before .before .before .before .before .before .before .before .before .before .before .records .given .1))
+
+nodes-into-requires : tie.Need-nodes-into-requires
+nodes-into-requires c κs = let part = within _ _ (c .before .before .before .before .before .before .before .before .before .before .before .before .before .before .list-at2 .ensures) (c .before .before .before .before .before .before .before .before .before .before .before .before .buffer .given .1) in search needs
 
 returns-4 : tie.Need-returns-4
-returns-4 c = search needs
+unfolding sameNodes
+returns-4 c =
+    let start = c .before .before .before .before .before .before .before .before .before .before .before .before .before .before .before .before .before .before .before .before .before .before .before .before .before .before .args in
+    let line = start .words .now in
+    let b = start .map .now in
+    let a = start .area .now in
+    let told : LeftWith ℕ → Bool = λ l. same (drop (behind line (behind line 2)) line) (withList (countWords (l .answer)) (l .buffer)) in (
+      has-room (getD line (behind line 2) 0) 7680 _ (omega (arith, second-size line 2 (c .before .before .before .before .before .before .before .before .before .before .before .before .before .before .before .before .before .before .before .before .before .before .list-at .ensures) (c .before .before .before .before .before .before .before .before .before .before .before .before .before .before .before .before .before .before .before .before .records .given .1) (c .before .before .before .before .before .before .before .before .before .before .before .before .before .before .before .before .before .before .list-at2 .ensures) (c .before .before .before .before .before .before .before .before .before .before .before .before .before .before .before .before .buffer .given .1)))
+          (
+          two-with line 2 (c .before .before .before .before .before .before .before .before .before .before .before .before .before .before .before .before .before .before .before .before .before .before .list-at .ensures) (c .before .before .before .before .before .before .before .before .before .before .before .before .before .before .before .before .before .before .before .before .records .given .1) (c .before .before .before .before .before .before .before .before .before .before .before .before .before .before .before .before .before .before .list-at2 .ensures) (c .before .before .before .before .before .before .before .before .before .before .before .before .before .before .before .before .buffer .given .1) countWords (λ (l m : List ℕ). nodesInIntervals b a l (c .before .before .before .before .before .wide .result) m)
+          (lent line _ (c .before .before .before .before .before .before .before .before .before .before .before .before .before .before .before .before .before .before .list-at2 .ensures) (c .before .before .before .before .before .before .before .before .before .before .before .before .before .before .before .before .buffer .given .1) (c .before .before .before .before .before .before .before .before .before .before .before .before .before .record-room .result) (c .before .before .before .before .before .before .before .before .before .before .before .before .before .record-room .ensures) (omega arith) (c .before .before .before .before .before .before .before .before .before .before .copy-out .ensures))
+          (c .before .before .before .nodes-into .ensures .0)
+          ∙ ap (λ (n : ℕ). told (nodesInIntervals b a (listAt line 2) n (listAt line (behind line 2)))) (c .before .before .before .before .before .wide .ensures)
+          ),
+      (λ _. c .before .before .before .nodes-into .ensures .1),
+    )
 
 pub same-nodes-spec : {M : Type 1} → statement M
 same-nodes-spec =
     tie.close
     (tie.spec
-    list-at-requires
-    enum-known-records
-    enum-told
-    returns
-    record-room-requires
-    sub-count
-    mul-nodes-in-intervals
-    sub-nodes-in-intervals
-    part-nodes-in-intervals-start
-    part-nodes-in-intervals-end
-    slice-aggregate-nodes-in-intervals
-    nodes-in-intervals-requires
-    enum-known-answer
-    enum-told-2
-    same-length
-    returns-2
-    same-length-2
-    returns-3
-    sub-is-list
-    part-is-list-start
-    part-is-list-end
-    is-list-requires
-    same-length-3
-    returns-4)
+    (λ c κs. search needs) (search needs) (search needs) returns (λ c κs. search needs) (search needs) (search needs) returns-2 sub-size
+    returns-3 (λ c κs. search needs) mul-copy-out sub-copy-out part-copy-out-start part-copy-out-end (search needs) copy-out-requires
+    mul-nodes-into sub-nodes-into part-nodes-into-start part-nodes-into-end shared-slice-read-wide (λ c κs. search needs) (search needs)
+    (search needs) (search needs) nodes-into-requires (search needs) returns-4)

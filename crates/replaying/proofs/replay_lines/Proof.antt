@@ -10,22 +10,14 @@ use Rattle.replaying.proofs.replay_lines.Statement.{statement}
 use Rattle.replaying.proofs.replay_lines.Tie as tie
 
 abbrev Inv-loop : tie.InvT-loop
-Inv-loop file words₀ map₀ area₀ asked₀ differing₀ turn₀ at₀ number₀ words map area asked differing turn at number =
+Inv-loop file words₀ map₀ area₀ kept₀ asked₀ differing₀ turn₀ at₀ number₀ words map area kept asked differing turn at number =
     (at ≤ length file + 1) × (number ≤ at) × (length words ≡ length words₀) × (length map ≡ length map₀) × (length area ≡ length area₀)
+    × (length kept ≡ length kept₀)
     × (length asked ≡ length asked₀)
     × (length differing ≡ length differing₀)
 
 abbrev μ-loop : tie.MeasureT-loop
-μ-loop file words₀ map₀ area₀ asked₀ differing₀ turn₀ at₀ number₀ words map area asked differing turn at number = length file + 1 - at
-
-start-requires : tie.Need-start-requires Inv-loop μ-loop
-start-requires c κs = search needs
-
-loop-holds : tie.Need-loop-holds Inv-loop μ-loop
-loop-holds c = search needs
-
-line-end-requires : tie.Need-line-end-requires Inv-loop μ-loop
-line-end-requires c κs = search needs
+μ-loop file words₀ map₀ area₀ kept₀ asked₀ differing₀ turn₀ at₀ number₀ words map area kept asked differing turn at number = length file + 1 - at
 
 sub-replay-line : tie.Need-sub-replay-line Inv-loop μ-loop
 sub-replay-line c = let line = line-within _ _ (omega arith) (c .line-end .ensures) in search needs
@@ -36,66 +28,22 @@ part-replay-line-start c = let line = line-within _ _ (omega arith) (c .line-end
 part-replay-line-end : tie.Need-part-replay-line-end Inv-loop μ-loop
 part-replay-line-end c = let line = line-within _ _ (omega arith) (c .line-end .ensures) in search needs
 
-replay-line-requires : tie.Need-replay-line-requires Inv-loop μ-loop
-replay-line-requires c κs = search needs
-
-add-number : tie.Need-add-number Inv-loop μ-loop
-add-number c = search needs
-
-tell-requires : tie.Need-tell-requires Inv-loop μ-loop
-tell-requires c κs = search needs
-
 add-at : tie.Need-add-at Inv-loop μ-loop
 add-at c =
-    let start = c .before .before .before .before .before .before .before .before .before .before .before .before .before .before .before .before .before .before .before .before .before .before .before .before .before .before .before .before in
+    let start = c .before .before .before .before .before .before .before .before .before .before .before .before .before .before .before .before .before .before .before .before .before .before .before .before .before .before .before .before .before .before .before .before in
     let good = start .good .0 in
-    let line = line-within (start .args .file .now) (c .before .before .before .before .before .before .before .before .before .before .before .before .before .before .before .before .before .before .before .before .loop .at) (omega arith) (c .before .before .before .before .before .before .before .before .before .before .before .before .before .before .before .before .before .before .line-end .ensures) in search needs
+    let line = line-within (start .args .file .now) (c .before .before .before .before .before .before .before .before .before .before .before .before .before .before .before .before .before .before .before .before .before .before .before .loop .at) (omega arith) (c .before .before .before .before .before .before .before .before .before .before .before .before .before .before .before .before .before .before .before .before .before .line-end .ensures) in search needs
 
 loop-less : tie.Need-loop-less Inv-loop μ-loop
-loop-less c = let line = line-within (c .before .before .before .before .before .before .before .before .before .before .before .before .before .before .before .before .before .before .before .before .before .before .before .before .before .before .before .before .args .file .now) (c .before .before .before .before .before .before .before .before .before .before .before .before .before .before .before .before .before .before .before .before .loop .at) (omega arith) (c .before .before .before .before .before .before .before .before .before .before .before .before .before .before .before .before .before .before .line-end .ensures) in search needs
+loop-less c = let line = line-within (c .before .before .before .before .before .before .before .before .before .before .before .before .before .before .before .before .before .before .before .before .before .before .before .before .before .before .before .before .before .before .before .before .args .file .now) (c .before .before .before .before .before .before .before .before .before .before .before .before .before .before .before .before .before .before .before .before .before .before .before .loop .at) (omega arith) (c .before .before .before .before .before .before .before .before .before .before .before .before .before .before .before .before .before .before .before .before .before .line-end .ensures) in search needs
 
 loop-again : tie.Need-loop-again Inv-loop μ-loop
-loop-again c = let line = line-within (c .before .before .before .before .before .before .before .before .before .before .before .before .before .before .before .before .before .before .before .before .before .before .before .before .before .before .before .before .args .file .now) (c .before .before .before .before .before .before .before .before .before .before .before .before .before .before .before .before .before .before .before .before .loop .at) (omega arith) (c .before .before .before .before .before .before .before .before .before .before .before .before .before .before .before .before .before .before .line-end .ensures) in search needs
-
-same-length : tie.Need-same-length Inv-loop μ-loop
-same-length c = search needs
-
-same-length-2 : tie.Need-same-length-2 Inv-loop μ-loop
-same-length-2 c = search needs
-
-same-length-3 : tie.Need-same-length-3 Inv-loop μ-loop
-same-length-3 c = search needs
-
-same-length-4 : tie.Need-same-length-4 Inv-loop μ-loop
-same-length-4 c = search needs
-
-same-length-5 : tie.Need-same-length-5 Inv-loop μ-loop
-same-length-5 c = search needs
-
-returns : tie.Need-returns Inv-loop μ-loop
-returns c = search needs
+loop-again c = let line = line-within (c .before .before .before .before .before .before .before .before .before .before .before .before .before .before .before .before .before .before .before .before .before .before .before .before .before .before .before .before .before .before .before .before .args .file .now) (c .before .before .before .before .before .before .before .before .before .before .before .before .before .before .before .before .before .before .before .before .before .before .before .loop .at) (omega arith) (c .before .before .before .before .before .before .before .before .before .before .before .before .before .before .before .before .before .before .before .before .before .line-end .ensures) in search needs
 
 pub replay-lines-spec : {M : Type 1} → statement M
 replay-lines-spec =
     tie.close
     (tie.spec
-    Inv-loop
-    μ-loop
-    start-requires
-    loop-holds
-    line-end-requires
-    sub-replay-line
-    part-replay-line-start
-    part-replay-line-end
-    replay-line-requires
-    add-number
-    tell-requires
-    add-at
-    loop-less
-    loop-again
-    same-length
-    same-length-2
-    same-length-3
-    same-length-4
-    same-length-5
-    returns)
+    Inv-loop μ-loop (λ c κs. search needs) (search needs) (λ c κs. search needs) sub-replay-line part-replay-line-start part-replay-line-end
+    (λ c κs. search needs) (search needs) (λ c κs. search needs) add-at loop-less loop-again (search needs) (search needs) (search needs)
+    (search needs) (search needs) (search needs) (search needs))

@@ -1,0 +1,10 @@
+//! What the host and the recorder of `replay` share: calls of the library, 01 read plainly, and random calls.
+//!
+//! - [`call`]: a call with all that is lent to it, and all that it leaves;
+//! - [`reading`]: the whole outcome of every call, from 01's text alone;
+//! - [`asker`], [`lists`]: random calls about a map and an area, good and bad.
+
+pub mod asker;
+pub mod call;
+pub mod lists;
+pub mod reading;
