@@ -22,7 +22,7 @@ unfolding linesAtPort call
 returns-2 c =
     let start = c .before .before .before .before .before .before .before .before .before .before .before .before .before .args in
     let line = start .words .now in (
-      port-lines line (start .map .now) (start .area .now) (c .before .before .before .before .before .before .before .wide .ensures) (c .before .before .before .before .before .lines-at-port .ensures) (c .before .view-lines-at-port .ensures)
+      port-lines line (start .map .now) (start .area .now) (c .before .before .before .before .before .before .before .wide .ensures) (c .before .before .before .before .before .lines-at-port .ensures) (c .before .view-lines-at-port .ensures .0)
           (c .is-port-answer .ensures),
       (λ _. ap (λ (l : Left (ℕ × ℕ)). l .area) (c .before .before .before .before .before .lines-at-port .ensures)),
     )
