@@ -80,5 +80,5 @@ pub scratch-spec : {M : Type 1} → statement M
 scratch-spec =
     tie.close
     (tie.spec
-    (λ c κs. search needs) (search needs) returns mul-from add-from mul-from-2 add-from-2 mul-to add-to mul-to-2 add-to-2 mul-to-3 add-to-3
+    (λ c κs. search needs) (search needs) (search needs) returns mul-from add-from mul-from-2 add-from-2 mul-to add-to mul-to-2 add-to-2 mul-to-3 add-to-3
     add-to-4 returns-2 returns-3)
