@@ -2,3 +2,4 @@ pub mod Same
 pub mod MapBytes
 pub mod Bounds
 pub mod Asked
+pub mod Used

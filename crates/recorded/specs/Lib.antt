@@ -2,3 +2,4 @@ pub mod Parts
 pub mod Laid
 pub mod Answers
 pub mod Questions
+pub mod Sections

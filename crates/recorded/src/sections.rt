@@ -4,14 +4,19 @@ use crate::line_parts::Part;
 use stepmap::read::StepMap;
 use stepmap::read::read_map;
 use words::field::wide;
+ghost use mathlib.Core.Path.{_≡_};
+ghost use mathlib.Core.Bool.{true};
 ghost use Prim.Native.Nat.{_≤_};
+ghost use lib.ListN.{getD};
+ghost use Rattle.paper.specs.Map.{N, L};
 ghost use Rattle.recorded.specs.Parts.{Ordered};
+ghost use Rattle.recorded.specs.Sections.{IsPart, SameSection, UsedAt, usedAt};
 
 // The used part of the section with a kind's number, for n nodes, l links and k lines: of the two lists l + k entries are used, of the line starts
 // k + 1.
 fn section(kind: usize, n: usize, l: usize, k: usize) -> Part
     requires { ⌜ (n ≤ 512) × (l ≤ 2048) × (k ≤ 65535) ⌝ }
-    ensures { λ r. ⌜ Ordered r ⌝ }
+    ensures { λ r. ⌜ Ordered r × UsedAt r (usedAt kind n l k) ⌝ }
 {
     let positions = 1 + n;
     let node_starts = positions + n;
@@ -50,6 +55,7 @@ fn section(kind: usize, n: usize, l: usize, k: usize) -> Part
 // Whether a part of the area is the line's list.
 fn is_part(area: &[u16], part: Part, words: &[u16]) -> bool
     requires { ⌜ Ordered part ⌝ }
+    ensures { λ r. ⌜ (r ≡ true → IsPart part (now (words .entry)) (now (area .entry))) ⌝ }
 {
     let Part::Words { from, to } = part else {
         return false;
@@ -64,7 +70,9 @@ fn is_part(area: &[u16], part: Part, words: &[u16]) -> bool
 }
 
 // Whether the line's list is the section of its kind.
-pub fn same_section(kind: usize, words: &[u16], map: &[u8], area: &[u16]) -> bool {
+pub fn same_section(kind: usize, words: &[u16], map: &[u8], area: &[u16]) -> bool
+    ensures { λ r. ⌜ (r ≡ true → SameSection kind (now (words .entry)) (now (map .entry)) (now (area .entry))) ⌝ }
+{
     let found = read_map(map);
     let StepMap::Sized {
         nodes,

@@ -1,10 +1,11 @@
--- `recorded::sections::same_section` is safe: a map that was read has sizes within the limits, and K is a word.
--- Rests on stepmap's Answers.
+-- `recorded::sections::same_section` meets its contract: a map that was read has sizes within the limits, K is a word, and the kind's part is compared.
+-- Rests on stepmap's Answers and Used.
 use native.Mathlib.Omega.{arith}
 use mathlib.Core.Path.{sym, ap, _∙_}
 use borrow.Author.Needs.{needs}
 use Rattle.stepmap.proofs.Answers.{read-well}
 use Rattle.stepmap.specs.Said.{mapSaid}
+use Rattle.recorded.proofs.Used.{not-so, is-section}
 use Rattle.recorded.proofs.sections.same_section.Statement.{statement}
 use Rattle.recorded.proofs.sections.same_section.Tie as tie
 
@@ -18,10 +19,10 @@ enum-told : tie.Need-enum-told
 enum-told c = search needs
 
 returns : tie.Need-returns
-returns c = search needs
+returns c = not-so
 
 returns-2 : tie.Need-returns-2
-returns-2 c = search needs
+returns-2 c = not-so
 
 shared-slice-read-wide : tie.Need-shared-slice-read-wide
 shared-slice-read-wide c = search needs
@@ -38,7 +39,13 @@ is-part-requires : tie.Need-is-part-requires
 is-part-requires c κs = search needs
 
 returns-3 : tie.Need-returns-3
-returns-3 c = search needs
+returns-3 c so =
+    let start = c .before .before .before .before .before .before .before .before .before .before .before .before .args in
+    let read = c .before .before .before .before .before .before in
+    let well = read-well _ _ _ _ (ap mapSaid (sym (read .found .given .1)) ∙ read .before .before .read-map .ensures) in
+    let used = rw (c .before .before .wide .ensures) at (c .before .section .ensures .1) in
+    is-section (start .kind) (start .words .now) (start .map .now) (start .area .now) (c .before .section .result) (well .nodes) (well .links) used
+    (c .is-part .ensures so)
 
 pub same-section-spec : {M : Type 1} → statement M
 same-section-spec =

@@ -1,8 +1,10 @@
--- `recorded::sections::section` answers parts that do not end before they begin.
--- Rests on Parts.
+-- `recorded::sections::section` meets its contract: each kind's part is where its words in use stand, and does not end before it begins.
+-- Rests on Used.
 use native.Mathlib.Omega.{arith}
 use borrow.Author.Needs.{needs}
 use Rattle.recorded.specs.Parts.{Ordered}
+use Rattle.recorded.specs.Sections.{UsedAt, usedAt}
+use Rattle.recorded.proofs.Used.{stands-at}
 use Rattle.recorded.proofs.sections.section.Statement.{statement}
 use Rattle.recorded.proofs.sections.section.Tie as tie
 
@@ -55,32 +57,44 @@ add-t18 : tie.Need-add-t18
 add-t18 c = search needs
 
 returns : tie.Need-returns
-unfolding Ordered
-returns c = omega arith
+unfolding Ordered usedAt
+returns c =
+    let start = c .before .args in
+    (omega arith, stands-at 2 (start .n) (start .l) (start .k) (c .match .keys1) (omega arith))
 
 returns-2 : tie.Need-returns-2
-unfolding Ordered
-returns-2 c = omega arith
+unfolding Ordered usedAt
+returns-2 c =
+    let start = c .before .args in
+    (omega arith, stands-at 3 (start .n) (start .l) (start .k) (c .match .keys2) (omega arith))
 
 returns-3 : tie.Need-returns-3
-unfolding Ordered
-returns-3 c = omega arith
+unfolding Ordered usedAt
+returns-3 c =
+    let start = c .before .args in
+    (omega arith, stands-at 4 (start .n) (start .l) (start .k) (c .match .keys3) (omega arith))
 
 returns-4 : tie.Need-returns-4
-unfolding Ordered
-returns-4 c = omega arith
+unfolding Ordered usedAt
+returns-4 c =
+    let start = c .before .args in
+    (omega arith, stands-at 5 (start .n) (start .l) (start .k) (c .match .keys4) (omega arith))
 
 returns-5 : tie.Need-returns-5
-unfolding Ordered
-returns-5 c = omega arith
+unfolding Ordered usedAt
+returns-5 c =
+    let start = c .before .args in
+    (omega arith, stands-at 6 (start .n) (start .l) (start .k) (c .match .keys5) (omega arith))
 
 returns-6 : tie.Need-returns-6
-unfolding Ordered
-returns-6 c = omega arith
+unfolding Ordered usedAt
+returns-6 c =
+    let start = c .before .args in
+    (omega arith, stands-at 7 (start .n) (start .l) (start .k) (c .match .keys6) (omega arith))
 
 returns-7 : tie.Need-returns-7
-unfolding Ordered
-returns-7 c = omega arith
+unfolding Ordered UsedAt
+returns-7 c = (tt, tt)
 
 pub section-spec : {M : Type 1} → statement M
 section-spec =
