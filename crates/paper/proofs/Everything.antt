@@ -12,12 +12,13 @@ use Rattle.paper.specs.Walk.{M, nextOn, startNodes, standsBelow, visit, 
 use Rattle.paper.specs.OrderCheck.{placesOf, inRange, neighbourPlaces, insert, insertAll, passNode, passOther, stepTopo, topoAfter, replyOf, orderCheck}
 use Rattle.paper.specs.Records.{recordAt, recordsIn, wordsOfRecords, nextPosition, nextBelow, nextAbove, grow, behind, extendLine, extendLines, extend, insideOn, inside, nodesIn}
 use Rattle.paper.specs.Ports.{earlierPorts, firstLine, lineCountAt, linesAt, viewStart, otherEnd, firstOtherEnd, conflict}
+use Rattle.paper.specs.Path.{leads, fedBy, farther, rounds, levelAt, endsAt, closing, stepBefore, pathTo, pathFrom, backPath, stepsOf, shownOf}
 use Rattle.paper.specs.Refusals.{refuse, earliest, rule1, rule2, rule3, badLink, refuseLink, rule45, rule6, rule7, rule8, rule9, rule10, rule14, onLine, usedBefore, badRecord, wholeRecords, rule12, straddles, rule13, rule11, decide, answer, onRefusal}
-use Rattle.paper.specs.Calls.{untouched, unprepared, prepare, areaAfter, opening, call, callInto, lineRules, isNodeConvex, orderRules, topoIsNodeConvex, portRules, isConvex, topoIsConvex, said, wordsOf, needed, getIntervalsFromNodes, isConvexByIntervals, tryExtendIntervals, nodesInIntervals, linesAtPort, viewAt, partAt, viewOfPort}
+use Rattle.paper.specs.Calls.{untouched, unprepared, prepare, areaAfter, opening, call, callInto, lineRules, isNodeConvex, orderRules, topoIsNodeConvex, portRules, isConvex, topoIsConvex, said, wordsOf, needed, getIntervalsFromNodes, isConvexByIntervals, tryExtendIntervals, nodesInIntervals, pathAnswer, showPath, linesAtPort, viewAt, partAt, viewOfPort}
 use Rattle.paper.specs.Words.{wordsFrom, bytesFrom, putWords}
 use Rattle.paper.specs.Lookup.{lookup, rounded, float, quotient, product, moved, guess}
 use Rattle.paper.specs.Plain.{highestLowest}
-use Rattle.paper.specs.Text.{onto, split, lastIfAny, linesIn, isDigit, valueOnto, isNumber, readNumber, also, collect, readList, decimalIn, decimal, showReply, showRefused, showLine, showOrder, askList, askLists, firstOutput, askPrepared, ask}
+use Rattle.paper.specs.Text.{onto, split, lastIfAny, linesIn, isDigit, valueOnto, isNumber, readNumber, also, collect, readList, decimalIn, decimal, showReply, showRefused, showLine, showOrder, showWay, askSays, whySays, firstOutput, sayLine, sayLines, sayPrepared, output as printed, ask, why}
 
 of-the-kit : Unit {0}
 unfolding flatMap flatten ofInt div mul add toUnsigned
@@ -63,12 +64,16 @@ of-Ports : Unit {0}
 unfolding earlierPorts firstLine lineCountAt linesAt viewStart otherEnd firstOtherEnd conflict
 of-Ports = tt
 
+of-Path : Unit {0}
+unfolding leads fedBy farther rounds levelAt endsAt closing stepBefore pathTo pathFrom backPath stepsOf shownOf
+of-Path = tt
+
 of-Refusals : Unit {0}
 unfolding refuse earliest rule1 rule2 rule3 badLink refuseLink rule45 rule6 rule7 rule8 rule9 rule10 rule14 onLine usedBefore badRecord wholeRecords rule12 straddles rule13 rule11 decide answer onRefusal
 of-Refusals = tt
 
 of-Calls : Unit {0}
-unfolding untouched unprepared prepare areaAfter opening call callInto lineRules isNodeConvex orderRules topoIsNodeConvex portRules isConvex topoIsConvex said wordsOf needed getIntervalsFromNodes isConvexByIntervals tryExtendIntervals nodesInIntervals linesAtPort viewAt partAt viewOfPort
+unfolding untouched unprepared prepare areaAfter opening call callInto lineRules isNodeConvex orderRules topoIsNodeConvex portRules isConvex topoIsConvex said wordsOf needed getIntervalsFromNodes isConvexByIntervals tryExtendIntervals nodesInIntervals pathAnswer showPath linesAtPort viewAt partAt viewOfPort
 of-Calls = tt
 
 of-Words : Unit {0}
@@ -84,9 +89,9 @@ unfolding highestLowest
 of-Plain = tt
 
 of-Text : Unit {0}
-unfolding onto split lastIfAny linesIn isDigit valueOnto isNumber readNumber also collect readList decimalIn decimal showReply showRefused showLine showOrder askList askLists firstOutput askPrepared ask
+unfolding onto split lastIfAny linesIn isDigit valueOnto isNumber readNumber also collect readList decimalIn decimal showReply showRefused showLine showOrder showWay askSays whySays firstOutput sayLine sayLines sayPrepared printed ask why
 of-Text = tt
 
 unfoldable pub everything : Unit {0}
-unfolding of-the-kit of-Map of-Order of-Lines of-Area of-Accepted of-Intervals of-Walk of-OrderCheck of-Records of-Ports of-Refusals of-Calls of-Words of-Lookup of-Plain of-Text
+unfolding of-the-kit of-Map of-Order of-Lines of-Area of-Accepted of-Intervals of-Walk of-OrderCheck of-Records of-Ports of-Path of-Refusals of-Calls of-Words of-Lookup of-Plain of-Text
 everything = tt

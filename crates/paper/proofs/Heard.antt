@@ -10,7 +10,8 @@ use lib.ListN.{getD}
 use borrow.Author.Tests.{eqb-true}
 use Rattle.paper.specs.Intervals.{Reply, Yes, No}
 use Rattle.paper.specs.Refusals.{Answer, refused, answered}
-use Rattle.paper.specs.Exports.{Told, tell, inLineReply, inReply, heardLine, heardOrder}
+use Rattle.paper.specs.Path.{Shown, steps, noSteps}
+use Rattle.paper.specs.Exports.{Told, tell, inLineReply, inReply, inShown, heardLine, heardOrder, heardPath}
 use Rattle.paper.specs.Plain.{Convex, Ahead, Number}
 use Rattle.paper.specs.Promise.{LinePromise, OrderPromise}
 use Rattle.paper.proofs.Promise.{no-yes, never-answered, same-answer}
@@ -46,6 +47,21 @@ module _ (said : Answer Reply) (n₀ p₀ : ℕ) where
       back (refused n p) = refl
       back (answered Yes) = refl
       back (answered No) = refl
+
+pathOf : Told → Answer Shown
+pathOf t = heardPath (t .case) (getD (t .values) 0 0) (t .number) (t .place)
+
+module _ (said : Answer Shown) (c₀ n₀ p₀ : ℕ) where
+  pub path-heard-told : {case count number place : ℕ}
+      → record { case = case; values = count ∷ []; number = number; place = place } ≡ tell inShown said (c₀ ∷ []) n₀ p₀
+      → heardPath case count number place ≡ said
+  unfolding tell heardPath inShown pathOf
+  path-heard-told e = ap pathOf e ∙ back said
+    where
+      back : (x : Answer Shown) → pathOf (tell inShown x (c₀ ∷ []) n₀ p₀) ≡ x
+      back (refused n p) = refl
+      back (answered (steps n)) = refl
+      back (answered noSteps) = refl
 
 -- ---- what the promise says of the numbers: 1 exactly for a convex list, and then the count is the number of steps ahead
 

@@ -3,6 +3,7 @@ pub mod Area
 pub mod Everything
 pub mod Recording
 pub mod Cases
+pub mod Paths
 pub mod Vectors
 pub mod Recorded
 pub mod Refused

@@ -12,6 +12,7 @@ use Rattle.paper.specs.Walk.{walk, lineCheck}
 use Rattle.paper.specs.OrderCheck.{orderCheck}
 use Rattle.paper.specs.Records.{extend, nodesIn, recordsIn, wordsOfRecords}
 use Rattle.paper.specs.Ports.{firstLine, lineCountAt, viewStart, conflict}
+use Rattle.paper.specs.Path.{Path, Shown, backPath, stepsOf, shownOf}
 use Rattle.paper.specs.Refusals.{
   Ruling,
   rule1,
@@ -162,6 +163,18 @@ nodesInIntervals b a words n buffer =
     let nodes = nodesIn b a (recordsIn words n) in
     callInto b a (rule12 b a words n ∷ rule13 b a (recordsIn words n) ∷ rule11 (length buffer) (length nodes) ∷ []) (length nodes) buffer
     nodes
+
+-- ---- 02, No. 1: "Show the path"
+
+-- "Refusals: those of the line check .."
+unfoldable pub pathAnswer : List ℕ → List ℕ → List ℕ → Answer Path
+pathAnswer b a list = answer (decide (opening b a ++ lineRules b list)) (backPath b list)
+
+-- ".. then 11 with the steps needed", which no path does not need
+unfoldable pub showPath : List ℕ → List ℕ → List ℕ → List ℕ → LeftWith Shown
+showPath b a list buffer =
+    let found = backPath b list in
+    callInto b a (lineRules b list ++ (rule11 (length buffer) (length (stepsOf found)) ∷ [])) (shownOf found) buffer (stepsOf found)
 
 -- ---- ports
 

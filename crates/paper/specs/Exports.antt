@@ -7,10 +7,11 @@ use lib.Dec.{eqb}
 use lib.Seq.{sets}
 use Rattle.paper.specs.Intervals.{Reply, Yes, No}
 use Rattle.paper.specs.Refusals.{Answer, refused, answered}
+use Rattle.paper.specs.Path.{Shown, steps, noSteps}
 use Rattle.paper.specs.Calls.{Left, LeftWith, Written, wrote, foundApart}
 use Rattle.paper.specs.Words.{putWords}
 
--- ---- an answer in numbers: 1 is an answer or yes; 2 is no, not contiguous or not extendable; with its values
+-- ---- an answer in numbers: 1 is an answer or yes; 2 is no, not contiguous, not extendable or no path; with its values
 
 unfoldable pub inCount : ℕ → ℕ × List ℕ
 inCount n = (1, n ∷ [])
@@ -26,6 +27,10 @@ inReply No = (2, [])
 unfoldable pub inWritten : Written → ℕ × List ℕ
 inWritten (wrote n) = (1, n ∷ [])
 inWritten foundApart = (2, [])
+
+unfoldable pub inShown : Shown → ℕ × List ℕ
+inShown (steps n) = (1, n ∷ [])
+inShown noSteps = (2, [])
 
 unfoldable pub inPair : ℕ × ℕ → ℕ × List ℕ
 inPair (m, n) = (1, m ∷ n ∷ [])
@@ -56,6 +61,11 @@ heardLine case count number place =
 unfoldable pub heardOrder : (case number place : ℕ) → Answer Reply
 heardOrder case number place =
     cond (eqb case 1) (answered Yes) (cond (eqb case 2) (answered No) (refused number place))
+
+-- the path: 1 is a path with its steps, 2 is no path
+unfoldable pub heardPath : (case count number place : ℕ) → Answer Shown
+heardPath case count number place =
+    cond (eqb case 1) (answered (steps count)) (cond (eqb case 2) (answered noSteps) (refused number place))
 
 -- ---- .. and what stands in the lent bytes: the words that the call leaves are put back
 

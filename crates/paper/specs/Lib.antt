@@ -8,6 +8,7 @@ pub mod Walk
 pub mod OrderCheck
 pub mod Records
 pub mod Ports
+pub mod Path
 pub mod Refusals
 pub mod Calls
 pub mod Words

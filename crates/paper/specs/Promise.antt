@@ -1,19 +1,20 @@
 -- Demand 3 as a promise about each check's answer: what is asked of the caller, and what the answer then says.
--- Rests on Plain (directed paths, `Convex`, the steps ahead), Accepted, and Ports (the first-link rule).
+-- Rests on Plain (directed paths, `Convex`, the steps ahead), Path, Accepted, and Ports (the first-link rule).
 use Prim.Native.Nat.{ℕ, _≤_, _<_}
 use mathlib.Core.Path.{_≡_}
 use mathlib.Core.Logic.{_↔_}
 use mathlib.Core.Bool.{true, false}
 use mathlib.Core.List.{List}
-use lib.ListN.{length}
+use lib.ListN.{length, take}
 use Rattle.lists.specs.Lists.{In, Distinct}
 use Rattle.paper.specs.Map.{N, L, P, wellFormed, withinLimits, missing, second}
 use Rattle.paper.specs.Area.{W}
 use Rattle.paper.specs.Accepted.{Accepted}
 use Rattle.paper.specs.Intervals.{Reply, Yes}
 use Rattle.paper.specs.Ports.{conflict}
-use Rattle.paper.specs.Refusals.{Answer, answered}
+use Rattle.paper.specs.Refusals.{Answer, refused, answered}
 use Rattle.paper.specs.Plain.{Convex, Ahead, Number}
+use Rattle.paper.specs.Path.{ThePath, Shown, steps, noSteps}
 
 -- ---- "For an accepted map with accepted tables (any accepted tables, not only prepared ones)"
 
@@ -73,3 +74,12 @@ pub record OrderPortsPromise (b list inputs outputs : List ℕ) (said : Answer R
   pub reply : Reply
   pub is : said ≡ answered reply
   pub exactly : (reply ≡ Yes) ↔ ((conflict b inputs outputs ≡ false) × Convex b list)
+
+-- ---- 02, No. 1: the path stands in the buffer, "no path" is said of a convex list alone, or the buffer has no room for the path
+
+pub data PathPromise (b list before after : List ℕ) (said : Answer Shown) : Type 0 where
+  given : (vs : List ℕ) → ThePath b list vs → said ≡ answered (steps (length vs)) → take (length vs) after ≡ vs
+      → PathPromise b list before after said
+  none : Convex b list → said ≡ answered noSteps → PathPromise b list before after said
+  noRoom : (vs : List ℕ) → ThePath b list vs → said ≡ refused 11 (length vs) → length before < length vs
+      → PathPromise b list before after said

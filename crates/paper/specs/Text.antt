@@ -1,8 +1,8 @@
--- 01, the program `ask`: its text, read and printed, as a function from bytes to bytes.
+-- 01, the program `ask`, and `why` beside it: their text, read and printed, as functions from bytes to bytes.
 -- Rests on Calls.
 use Prim.Native.Nat.{ℕ, zero, suc, _+_, _-_, _*_, _/_, _%_}
 use mathlib.Core.Bool.{Bool, _&&_, _||_, not, cond}
-use mathlib.Core.List.{List, [], _∷_, _++_, map}
+use mathlib.Core.List.{List, [], _∷_, _++_, map, flatMap}
 use lib.ListN.{length, replicate}
 use lib.Dec.{eqb, leb, ltb}
 use Rattle.lists.specs.Lists.{all}
@@ -12,7 +12,8 @@ use Rattle.paper.specs.Map.{N, L}
 use Rattle.paper.specs.Area.{W}
 use Rattle.paper.specs.Intervals.{Reply, Yes, No}
 use Rattle.paper.specs.Refusals.{Answer, refused, answered}
-use Rattle.paper.specs.Calls.{Left, prepare, isNodeConvex, topoIsNodeConvex}
+use Rattle.paper.specs.Path.{Path, path, noPath}
+use Rattle.paper.specs.Calls.{Left, prepare, isNodeConvex, topoIsNodeConvex, pathAnswer}
 
 abbrev pub newline : ℕ
 newline = 10
@@ -103,37 +104,56 @@ unfoldable pub showOrder : Answer Reply → List ℕ
 showOrder (refused n p) = showRefused n p
 showOrder (answered r) = showReply r
 
--- ---- the program: b is the map's bytes, a the prepared area
+-- a path as its steps
+unfoldable pub showWay : Answer Path → List ℕ
+showWay (refused n p) = showRefused n p
+showWay (answered (path steps)) = ascii "path" ++ flatMap (λ v. ascii " " ++ decimal v) steps
+showWay (answered noPath) = ascii "no path"
+
+-- ---- what a program says of a list: b is the map's bytes, a the prepared area
 
 -- "Each further line gives the line check with its count, then the order check; a refused check shows number and place."
--- "A bad text line prints `refused 15` and its line number from 0, and the program goes on."
-unfoldable pub askList : List ℕ → List ℕ → ℕ → Read → List ℕ
-askList b a i bad = showRefused 15 i ++ (newline ∷ [])
-askList b a i (list ns) =
-    ascii "line " ++ showLine (isNodeConvex b a ns .answer)
-    ++ ascii " order "
-    ++ showOrder (topoIsNodeConvex b a ns .answer)
-    ++ (newline ∷ [])
+unfoldable pub askSays : List ℕ → List ℕ → List ℕ → List ℕ
+askSays b a ns =
+    ascii "line " ++ showLine (isNodeConvex b a ns .answer) ++ ascii " order " ++ showOrder (topoIsNodeConvex b a ns .answer)
 
-unfoldable pub askLists : List ℕ → List ℕ → ℕ → List (List ℕ) → List ℕ
-askLists b a i [] = []
-askLists b a i (text ∷ texts) = askList b a i (readList text) ++ askLists b a (suc i) texts
+-- 02, No. 1, for people: `path` with its steps, `no path`, or `refused` with number and place
+unfoldable pub whySays : List ℕ → List ℕ → List ℕ → List ℕ
+whySays b a ns = showWay (pathAnswer b a ns)
 
 -- "The first line gives N, L, K."
 unfoldable pub firstOutput : List ℕ → ℕ → List ℕ
 firstOutput b k =
     ascii "steps " ++ decimal (N b) ++ ascii " links " ++ decimal (L b) ++ ascii " lines " ++ decimal k ++ (newline ∷ [])
 
--- "A refused map prints only `refused`, number, place, and is reported before the input's size."
--- "Input over 60,000 bytes prints only `refused 15 0`."
-unfoldable pub askPrepared : List ℕ → List ℕ → Left ℕ → List ℕ
-askPrepared b input left = elim (left .answer) [
-  | refused n p ↦ showRefused n p ++ (newline ∷ [])
-  | answered k ↦ cond (ltb 60000 (length input)) (showRefused 15 0 ++ (newline ∷ []))
-      (firstOutput b k ++ askLists b (left .area) 0 (linesIn input))
-]
+-- ---- a program, by what it says of a list; `why` has the files, text rules, limits and first line of `ask`
 
--- "`steps.pgt` (missing counts as no bytes; over 65,000 bytes prints only `refused 2 0`, the program's own rule before 1)"
+module _ (says : List ℕ → List ℕ → List ℕ → List ℕ) where
+  -- "A bad text line prints `refused 15` and its line number from 0, and the program goes on."
+  unfoldable pub sayLine : List ℕ → List ℕ → ℕ → Read → List ℕ
+  sayLine b a i bad = showRefused 15 i ++ (newline ∷ [])
+  sayLine b a i (list ns) = says b a ns ++ (newline ∷ [])
+
+  unfoldable pub sayLines : List ℕ → List ℕ → ℕ → List (List ℕ) → List ℕ
+  sayLines b a i [] = []
+  sayLines b a i (text ∷ texts) = sayLine b a i (readList text) ++ sayLines b a (suc i) texts
+
+  -- "A refused map prints only `refused`, number, place, and is reported before the input's size."
+  -- "Input over 60,000 bytes prints only `refused 15 0`."
+  unfoldable pub sayPrepared : List ℕ → List ℕ → Left ℕ → List ℕ
+  sayPrepared b input left = elim (left .answer) [
+    | refused n p ↦ showRefused n p ++ (newline ∷ [])
+    | answered k ↦ cond (ltb 60000 (length input)) (showRefused 15 0 ++ (newline ∷ []))
+        (firstOutput b k ++ sayLines b (left .area) 0 (linesIn input))
+  ]
+
+  -- "`steps.pgt` (missing counts as no bytes; over 65,000 bytes prints only `refused 2 0`, the program's own rule before 1)"
+  unfoldable pub output : List ℕ → List ℕ → List ℕ
+  output b input =
+      cond (ltb 65000 (length b)) (showRefused 2 0 ++ (newline ∷ [])) (sayPrepared b input (prepare b (replicate (W b) 0)))
+
 unfoldable pub ask : List ℕ → List ℕ → List ℕ
-ask b input =
-    cond (ltb 65000 (length b)) (showRefused 2 0 ++ (newline ∷ [])) (askPrepared b input (prepare b (replicate (W b) 0)))
+ask = output askSays
+
+unfoldable pub why : List ℕ → List ℕ → List ℕ
+why = output whySays
