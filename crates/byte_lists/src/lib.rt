@@ -1,17 +1,22 @@
 // The questions on a list whose words cross as bytes, however long it is: it is taken in from the bytes, and what follows is the same.
 ghost use mathlib.Core.Path.{_≡_};
-ghost use mathlib.Core.List.{[], _∷_};
+ghost use mathlib.Core.List.{[], _∷_, _++_};
 ghost use Prim.Native.Nat.{min};
 ghost use Rattle.paper.specs.Calls.{lineRules, needed, said, wordsOf};
+ghost use lib.ListN.{length};
 ghost use Rattle.paper.specs.Intervals.{intervals};
+ghost use Rattle.paper.specs.Path.{backPath, shownOf, stepsOf};
 ghost use Rattle.paper.specs.Refusals.{rule9, rule10, rule11, wholeRecords};
 ghost use Rattle.paper.specs.Walk.{lineCheck};
 ghost use Rattle.paper.specs.Words.{wordsFrom};
 ghost use Rattle.intervals.specs.Answer.{listIn};
 ghost use Rattle.intervals.specs.Holds.{Listed};
 ghost use Rattle.line_checker.specs.Said.{intervalsSaid, lineSaid};
+ghost use Rattle.back_path.specs.Said.{pathSaid};
 ghost use Rattle.tables.specs.Answered.{Answered, AnsweredBytes};
 ghost use Rattle.tables.specs.Usable.{Usable, scratchAt};
+use back_path::showing::PathAnswer;
+use back_path::showing::show_listed;
 use line_checker::line_check::LineAnswer;
 use line_checker::line_check::check_listed;
 use line_checker::list_intervals::IntervalsAnswer;
@@ -109,4 +114,74 @@ pub fn intervals_of_list_bytes(
         return IntervalsAnswer::Refused(list_refusal(taken));
     };
     write_intervals_bytes(b, n, l, p, area, count, buffer)
+}
+
+// Room for the longest path: each of 512 nodes, and two steps more.
+fn path_room() -> [u16; 514]
+    ensures { λ r. ⌜ length r ≡ 514 ⌝ }
+{
+    [0u16; 514]
+}
+
+// So many steps as there is room for here.
+fn few_steps(whole: usize) -> usize
+    ensures { λ r. ⌜ r ≡ min whole 514 ⌝ }
+{
+    if 514 < whole {
+        return 514;
+    }
+    whole
+}
+
+// The path of a list that was taken in, whose `count` nodes stand in the scratch, into a buffer of bytes.
+fn show_listed_bytes(
+    b: &[u8],
+    n: usize,
+    l: usize,
+    p: usize,
+    area: &mut [u16],
+    count: usize,
+    buffer: &mut [u8],
+) -> PathAnswer
+    requires { ⌜ Usable (now b) (now area) n l p ⌝ }
+    requires { ⌜ Listed (now area) (scratchAt n l) count n ⌝ }
+    ensures { λ r. ⌜ AnsweredBytes n l p (now (area .entry)) (now (area .exit)) (pathSaid r)
+        (rule11 (length (wordsFrom (now (buffer .entry)))) (length (stepsOf (backPath (now (b .entry)) (listIn (now (area .entry)) n l count)))) ∷ [])
+        (shownOf (backPath (now (b .entry)) (listIn (now (area .entry)) n l count)))
+        (now (buffer .entry)) (now (buffer .exit))
+        (stepsOf (backPath (now (b .entry)) (listIn (now (area .entry)) n l count))) ⌝ }
+{
+    let whole = few_steps(buffer.len() / 2);
+    let mut room = path_room();
+    let shown = show_listed(b, n, l, p, area, count, &mut room[0..whole]);
+    let PathAnswer::Path(steps) = shown else {
+        return shown;
+    };
+    put_words(&room[0..steps], buffer);
+    shown
+}
+
+// The path of a list in bytes, into a buffer of bytes: refusals 8, 9, 10, then 11.
+pub fn show_path_of_list_bytes(
+    b: &[u8],
+    n: usize,
+    l: usize,
+    p: usize,
+    area: &mut [u16],
+    list: &[u8],
+    buffer: &mut [u8],
+) -> PathAnswer
+    requires { ⌜ Usable (now b) (now area) n l p ⌝ }
+    ensures { λ r. ⌜ AnsweredBytes n l p (now (area .entry)) (now (area .exit)) (pathSaid r)
+        (lineRules (now (b .entry)) (wordsFrom (now (list .entry)))
+        ++ (rule11 (length (wordsFrom (now (buffer .entry)))) (length (stepsOf (backPath (now (b .entry)) (wordsFrom (now (list .entry)))))) ∷ []))
+        (shownOf (backPath (now (b .entry)) (wordsFrom (now (list .entry)))))
+        (now (buffer .entry)) (now (buffer .exit))
+        (stepsOf (backPath (now (b .entry)) (wordsFrom (now (list .entry))))) ⌝ }
+{
+    let taken = take_in_bytes(list, n, area, 3 + 6 * n + 5 * l);
+    let Taken::Nodes(count) = taken else {
+        return PathAnswer::Refused(list_refusal(taken));
+    };
+    show_listed_bytes(b, n, l, p, area, count, buffer)
 }

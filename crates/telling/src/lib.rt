@@ -1,12 +1,14 @@
-// An answer told in numbers: 1 is an answer or yes; 2 is no, not contiguous or not extendable; 3 is refused. What a case has is written to
+// An answer told in numbers: 1 is an answer or yes; 2 is no, not contiguous, not extendable or no path; 3 is refused. What a case has is written to
 // the parameters lent for it, and the others stay as they were.
 ghost use mathlib.Core.Path.{_≡_};
 ghost use mathlib.Core.List.{[], _∷_};
-ghost use Rattle.paper.specs.Exports.{inCount, inLineReply, inPair, inReply, inWritten, tell};
+ghost use Rattle.paper.specs.Exports.{inCount, inLineReply, inPair, inReply, inShown, inWritten, tell};
 ghost use Rattle.refusals.specs.Said.{numberOf, placeOf};
 ghost use Rattle.line_checker.specs.Said.{extendSaid, intervalsSaid, lineSaid, nodesSaid};
 ghost use Rattle.topo_checker.specs.Said.{topoSaid};
 ghost use Rattle.convex.specs.Said.{portLinesSaid, preparedSaid};
+ghost use Rattle.back_path.specs.Said.{pathSaid};
+use back_path::showing::PathAnswer;
 use convex::line_convex_checker::PortLines;
 use convex::prepare::Prepared;
 use line_checker::extend::ExtendAnswer;
@@ -156,5 +158,20 @@ pub fn tell_port(
             1
         }
         PortLines::Refused(x) => tell_refusal(x, number, place),
+    }
+}
+
+// The path: how many steps it has, or that there is none.
+pub fn tell_path(answer: PathAnswer, count: &mut u64, number: &mut u64, place: &mut u64) -> u64
+    ensures { λ r. ⌜ record { case = r; values = now (count .exit) ∷ []; number = now (number .exit); place = now (place .exit) }
+        ≡ tell inShown (pathSaid answer) (now (count .entry) ∷ []) (now (number .entry)) (now (place .entry)) ⌝ }
+{
+    match answer {
+        PathAnswer::Path(steps) => {
+            put(count, steps);
+            1
+        }
+        PathAnswer::NoPath => 2,
+        PathAnswer::Refused(x) => tell_refusal(x, number, place),
     }
 }
