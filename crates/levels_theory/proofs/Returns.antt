@@ -27,10 +27,10 @@ pub record Return (b list steps : List ℕ) : Type 0 where
 
 -- ---- chains
 
-chain-first : {b steps : List ℕ} {u v : ℕ} → Chain b (u ∷ (v ∷ steps)) → Linked b u v
+pub chain-first : {b steps : List ℕ} {u v : ℕ} → Chain b (u ∷ (v ∷ steps)) → Linked b u v
 chain-first (onward r c) = r
 
-chain-rest : {b steps : List ℕ} {u v : ℕ} → Chain b (u ∷ (v ∷ steps)) → Chain b (v ∷ steps)
+pub chain-rest : {b steps : List ℕ} {u v : ℕ} → Chain b (u ∷ (v ∷ steps)) → Chain b (v ∷ steps)
 chain-rest (onward r c) = c
 
 chain-snoc : {b : List ℕ} (front : List ℕ) {u v : ℕ} → Chain b (front ++ (u ∷ [])) → Linked b u v → Chain b (front ++ (u ∷ []) ++ (v ∷ []))
