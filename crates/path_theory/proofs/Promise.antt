@@ -21,7 +21,7 @@ use Rattle.trust_theory.proofs.Passing.{not-refused, trusted-sound, both-pass, 
 use Rattle.levels_theory.proofs.Shortest.{the-path}
 use Rattle.path_theory.proofs.NoPath.{no-path}
 
-one-rule : (u : Ruling) → decide (u ∷ []) ≡ u
+pub one-rule : (u : Ruling) → decide (u ∷ []) ≡ u
 unfolding decide
 one-rule passed = refl
 one-rule (refusal n p) = refl

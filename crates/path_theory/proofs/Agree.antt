@@ -1,0 +1,44 @@
+-- The path and the checks agree: "no path" is said exactly when the line check says yes, and exactly when the order check does, contiguous or not;
+-- and what the one refuses the others refuse, but for the numbers that only some have. Rests on Promise and trust_theory's Agree.
+use Prim.Native.Nat.{ℕ, _≤_, _<_}
+use native.Mathlib.Omega.{arith}
+use mathlib.Core.Path.{_≡_, refl, sym, ap, _∙_}
+use mathlib.Core.Logic.{_↔_, Iff·trans, Iff·symm}
+use mathlib.Core.List.{List, [], _∷_, _++_, append-assoc}
+use lib.ListN.{length}
+use Rattle.paper.specs.Path.{Path, path, noPath, backPath, Shown, steps, noSteps, shownOf}
+use Rattle.paper.specs.Intervals.{Reply, Yes}
+use Rattle.paper.specs.Walk.{lineCheck}
+use Rattle.paper.specs.Refusals.{Ruling, passed, refusal, decide, Answer, refused, answered, answer}
+use Rattle.paper.specs.Calls.{opening, call, callInto, lineRules, isNodeConvex, topoIsNodeConvex, pathAnswer, showPath}
+use Rattle.paper.specs.Plain.{Convex}
+use Rattle.paper.specs.Promise.{Trusted, StepList, PathPromise, given, none, noRoom}
+use Rattle.paper.proofs.Promise.{never-answered, same-answer}
+use Rattle.trust_theory.proofs.Passing.{answers, not-refused, trusted-sound, line-passes}
+use Rattle.trust_theory.proofs.Promise.{line-promise, order-promise}
+use Rattle.trust_theory.proofs.Unique.{line-yes, order-yes}
+use Rattle.path_theory.proofs.NoPath.{no-path, bent}
+use Rattle.path_theory.proofs.Promise.{asks, last-decides, path-promise}
+
+-- ---- "no path" exactly when
+
+no-steps : {n : ℕ} → steps n ≡ noSteps → ⊥
+no-steps e = let z : _≡_ {A = ℕ} 0 1 = cc in omega arith
+
+-- by the promise alone
+pub path-none : {b list before after : List ℕ} {said : Answer Shown} → PathPromise b list before after said → (said ≡ answered noSteps) ↔ Convex b list
+path-none (given vs it e left) = (
+  λ q. absurd (no-steps (same-answer (sym e ∙ q))),
+  λ convex. absurd (bent (it .path) convex),
+)
+path-none (none convex e) = (λ q. convex, λ c. e)
+path-none (noRoom vs it e short) = (λ q. absurd (never-answered (sym e ∙ q)), λ convex. absurd (bent (it .path) convex))
+
+module _ {b a list : List ℕ} (t : Trusted b a) (s : StepList b list) (buffer : List ℕ) where
+  -- .. the line check says yes
+  pub path-agrees : (showPath b a list buffer .answer ≡ answered noSteps) ↔ ((c : ℕ) × (isNodeConvex b a list .answer ≡ answered (Yes, c)))
+  path-agrees = Iff·trans (path-none (path-promise t s buffer)) (Iff·symm (line-yes (line-promise t s)))
+
+  -- .. the order check says yes
+  pub path-agrees-with-order : (showPath b a list buffer .answer ≡ answered noSteps) ↔ (topoIsNodeConvex b a list .answer ≡ answered Yes)
+  path-agrees-with-order = Iff·trans (path-none (path-promise t s buffer)) (Iff·symm (order-yes (order-promise t (s .known))))
