@@ -17,7 +17,7 @@ use Rattle.lists.proofs.Compare.{fits}
 use Rattle.lists.proofs.First.{first-at, first-is, first-none}
 use Rattle.lists.proofs.Upto.{count-append}
 use Rattle.paper.specs.Map.{N}
-use Rattle.paper.specs.Path.{fedBy, farther, rounds, levelAt, endsAt, closing, stepBefore, pathTo, path, pathFrom, backPath}
+use Rattle.paper.specs.Path.{fedBy, farther, rounds, levelAt, endsAt, closing, stepBefore, pathTo, Path, path, noPath, pathFrom, backPath, stepsOf}
 use Rattle.convexity_theory.proofs.Memberships.{mem-in, in-either, times-out, times-distinct, decIn, Some, any-some}
 use Rattle.levels_theory.proofs.Levels.{
   Fed,
@@ -183,6 +183,15 @@ module _ (b list : List ℕ) where
 
   pub back-path-length : {vs : List ℕ} → backPath b list ≡ path vs → length vs ≤ N b + 2
   back-path-length e = omega (arith, back-path-fits [] tt (λ v i. absurd i) (λ v i. absurd i) e)
+
+  -- .. and so are the steps of what is found
+  pub few-steps : length (stepsOf (backPath b list)) ≤ N b + 2
+  unfolding stepsOf
+  few-steps = go (backPath b list) refl
+    where
+      go : (found : Path) → backPath b list ≡ found → length (stepsOf found) ≤ N b + 2
+      go (path vs) e = back-path-length e
+      go noPath e = omega arith
 
   -- where the listed steps are known
   module _ (known : (v : ℕ) → In v list → v < N b) where

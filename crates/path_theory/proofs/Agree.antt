@@ -1,24 +1,21 @@
 -- The path and the checks agree: "no path" is said exactly when the line check says yes, and exactly when the order check does, contiguous or not;
 -- and what the one refuses the others refuse, but for the numbers that only some have. Rests on Promise and trust_theory's Agree.
-use Prim.Native.Nat.{ℕ, _≤_, _<_}
+use Prim.Native.Nat.{ℕ}
 use native.Mathlib.Omega.{arith}
-use mathlib.Core.Path.{_≡_, refl, sym, ap, _∙_}
+use mathlib.Core.Path.{_≡_, sym, _∙_}
 use mathlib.Core.Logic.{_↔_, Iff·trans, Iff·symm}
-use mathlib.Core.List.{List, [], _∷_, _++_, append-assoc}
-use lib.ListN.{length}
-use Rattle.paper.specs.Path.{Path, path, noPath, backPath, Shown, steps, noSteps, shownOf}
-use Rattle.paper.specs.Intervals.{Reply, Yes}
-use Rattle.paper.specs.Walk.{lineCheck}
-use Rattle.paper.specs.Refusals.{Ruling, passed, refusal, decide, Answer, refused, answered, answer}
-use Rattle.paper.specs.Calls.{opening, call, callInto, lineRules, isNodeConvex, topoIsNodeConvex, pathAnswer, showPath}
+use mathlib.Core.List.{List}
+use Rattle.paper.specs.Path.{path, Shown, steps, noSteps}
+use Rattle.paper.specs.Intervals.{Yes}
+use Rattle.paper.specs.Refusals.{Answer, answered, answer}
+use Rattle.paper.specs.Calls.{isNodeConvex, topoIsNodeConvex, showPath}
 use Rattle.paper.specs.Plain.{Convex}
 use Rattle.paper.specs.Promise.{Trusted, StepList, PathPromise, given, none, noRoom}
 use Rattle.paper.proofs.Promise.{never-answered, same-answer}
-use Rattle.trust_theory.proofs.Passing.{answers, not-refused, trusted-sound, line-passes}
 use Rattle.trust_theory.proofs.Promise.{line-promise, order-promise}
 use Rattle.trust_theory.proofs.Unique.{line-yes, order-yes}
-use Rattle.path_theory.proofs.NoPath.{no-path, bent}
-use Rattle.path_theory.proofs.Promise.{asks, last-decides, path-promise}
+use Rattle.path_theory.proofs.NoPath.{bent}
+use Rattle.path_theory.proofs.Promise.{path-promise}
 
 -- ---- "no path" exactly when
 

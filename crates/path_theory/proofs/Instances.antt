@@ -2,19 +2,19 @@
 -- keeps no promise, and none does that always or never finds one. Rests on Unique and paper's cases.
 use Prim.Native.Nat.{ℕ}
 use native.Mathlib.Omega.{arith}
-use mathlib.Core.Path.{_≡_, refl, sym, ap, _∙_}
+use mathlib.Core.Path.{_≡_, refl}
 use mathlib.Core.List.{List, [], _∷_}
 use lib.ListN.{replicate}
 use Rattle.paper.specs.Area.{W}
 use Rattle.paper.specs.Path.{steps, noSteps}
 use Rattle.paper.specs.Refusals.{refused, answered}
-use Rattle.paper.specs.Calls.{prepare, showPath}
+use Rattle.paper.specs.Calls.{prepare}
 use Rattle.paper.specs.Promise.{PathPromise}
 use Rattle.paper.proofs.Everything.{everything}
 use Rattle.paper.proofs.Recording.{mapBytes}
 use Rattle.paper.proofs.Cases.{mapA}
 use Rattle.paper.proofs.Plain.{bytesA, convex-1-2, not-convex-0-1-3}
-use Rattle.paper.proofs.Promise.{never-answered, same-answer}
+use Rattle.paper.proofs.Promise.{never-answered}
 use Rattle.levels_theory.proofs.Only.{the-path-once}
 use Rattle.path_theory.proofs.Promise.{path-answered-kept}
 use Rattle.path_theory.proofs.Agree.{path-none}

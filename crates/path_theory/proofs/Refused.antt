@@ -1,6 +1,6 @@
 -- What is refused: the path refuses what the line check refuses, with the same number and place, and else only by 11; and but for 8 and 10, which it does
 -- not ask, so does the order check. Rests on refusals' Rulings.
-use Prim.Native.Nat.{ℕ, _<_}
+use Prim.Native.Nat.{ℕ}
 use native.Mathlib.Omega.{arith}
 use mathlib.Core.Path.{_≡_, refl, sym, ap, _∙_}
 use mathlib.Core.Logic.{_↔_, _⊎_, inl, inr}
@@ -11,13 +11,13 @@ use Rattle.lists.specs.Found.{Found, absent, at, placed}
 use Rattle.paper.specs.Path.{backPath, stepsOf, shownOf}
 use Rattle.paper.specs.Walk.{lineCheck}
 use Rattle.paper.specs.OrderCheck.{orderCheck}
-use Rattle.paper.specs.Refusals.{Ruling, passed, refusal, refuse, earliest, rule8, rule9, rule10, rule11, decide, Answer, refused, answered, answer}
+use Rattle.paper.specs.Refusals.{Ruling, passed, refusal, refuse, earliest, rule8, rule9, rule10, rule11, decide, refused, answer}
 use Rattle.paper.specs.Calls.{opening, call, callInto, lineRules, orderRules, isNodeConvex, topoIsNodeConvex, showPath}
 use Rattle.paper.proofs.Promise.{never-answered}
 use Rattle.accepted_theory.proofs.Refusals.{not-passed}
 use Rattle.trust_theory.proofs.Rules.{rule8-passes}
 use Rattle.refusals.proofs.Rulings.{first-decides, then-decides}
-use Rattle.path_theory.proofs.Promise.{one-rule, asks}
+use Rattle.path_theory.proofs.Promise.{asks}
 
 -- ---- a refusal and the rule behind it
 

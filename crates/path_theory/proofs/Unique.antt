@@ -1,13 +1,12 @@
 -- The promise says enough: two answers that keep it with one room are the same, and where a path is said, its steps stand in both rooms.
 -- Rests on levels_theory's Only and on NoPath.
-use Prim.Native.Nat.{ℕ, _≤_, _<_}
+use Prim.Native.Nat.{ℕ, _≤_}
 use native.Mathlib.Omega.{arith}
-use mathlib.Core.Path.{_≡_, refl, sym, ap, _∙_, subst}
+use mathlib.Core.Path.{_≡_, sym, ap, _∙_, subst}
 use mathlib.Core.List.{List}
 use lib.ListN.{length, take, length-take}
-use Rattle.paper.specs.Path.{ThePath, Shown, steps, noSteps}
+use Rattle.paper.specs.Path.{ThePath, Shown, steps}
 use Rattle.paper.specs.Refusals.{Answer, refused, answered}
-use Rattle.paper.specs.Plain.{Convex}
 use Rattle.paper.specs.Promise.{PathPromise, given, none, noRoom}
 use Rattle.paper.proofs.Promise.{never-answered}
 use Rattle.levels_theory.proofs.Only.{the-path-once}
