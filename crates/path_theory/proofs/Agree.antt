@@ -1,13 +1,13 @@
--- The path and the checks agree: "no path" is said exactly when the line check says yes, and exactly when the order check does, contiguous or not;
--- and what the one refuses the others refuse, but for the numbers that only some have. Rests on Promise and trust_theory's Agree.
+-- The path and the checks agree on every list that they answer, contiguous or not: "no path" exactly when the line check says yes, and the order check.
+-- Rests on Promise and trust_theory's Promise and Unique.
 use Prim.Native.Nat.{ℕ}
 use native.Mathlib.Omega.{arith}
 use mathlib.Core.Path.{_≡_, sym, _∙_}
 use mathlib.Core.Logic.{_↔_, Iff·trans, Iff·symm}
 use mathlib.Core.List.{List}
-use Rattle.paper.specs.Path.{path, Shown, steps, noSteps}
+use Rattle.paper.specs.Path.{Shown, steps, noSteps}
 use Rattle.paper.specs.Intervals.{Yes}
-use Rattle.paper.specs.Refusals.{Answer, answered, answer}
+use Rattle.paper.specs.Refusals.{Answer, answered}
 use Rattle.paper.specs.Calls.{isNodeConvex, topoIsNodeConvex, showPath}
 use Rattle.paper.specs.Plain.{Convex}
 use Rattle.paper.specs.Promise.{Trusted, StepList, PathPromise, given, none, noRoom}

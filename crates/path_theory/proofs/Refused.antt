@@ -1,22 +1,23 @@
--- What is refused: the path refuses what the line check refuses, with the same number and place, and else only by 11; and but for 8 and 10, which it does
--- not ask, so does the order check. Rests on refusals' Rulings.
+-- What is refused: the path refuses what the line check refuses, with its number and place, and else only by 11; and but for 8 and 10, which it
+-- does not ask, so does the order check. Rests on refusals' Rulings and trust_theory's Passing.
 use Prim.Native.Nat.{ℕ}
 use native.Mathlib.Omega.{arith}
 use mathlib.Core.Path.{_≡_, refl, sym, ap, _∙_}
 use mathlib.Core.Logic.{_↔_, _⊎_, inl, inr}
 use mathlib.Core.List.{List, [], _∷_, _++_, append-assoc}
 use lib.ListN.{length}
-use lib.Dec.{ltb}
-use Rattle.lists.specs.Found.{Found, absent, at, placed}
-use Rattle.paper.specs.Path.{backPath, stepsOf, shownOf}
+use Rattle.lists.specs.Found.{Found, absent, at}
+use Rattle.paper.specs.Path.{backPath, shownOf}
 use Rattle.paper.specs.Walk.{lineCheck}
 use Rattle.paper.specs.OrderCheck.{orderCheck}
 use Rattle.paper.specs.Refusals.{Ruling, passed, refusal, refuse, earliest, rule8, rule9, rule10, rule11, decide, refused, answer}
 use Rattle.paper.specs.Calls.{opening, call, callInto, lineRules, orderRules, isNodeConvex, topoIsNodeConvex, showPath}
+use Rattle.paper.specs.Promise.{Trusted, StepList}
 use Rattle.paper.proofs.Promise.{never-answered}
 use Rattle.accepted_theory.proofs.Refusals.{not-passed}
-use Rattle.trust_theory.proofs.Rules.{rule8-passes}
 use Rattle.refusals.proofs.Rulings.{first-decides, then-decides}
+use Rattle.trust_theory.proofs.Rules.{rule8-passes}
+use Rattle.trust_theory.proofs.Passing.{line-passes}
 use Rattle.path_theory.proofs.Promise.{asks}
 
 -- ---- a refusal and the rule behind it
@@ -57,8 +58,9 @@ module _ (b a list buffer : List ℕ) {n p : ℕ} where
       (ap decide (sym (append-assoc (opening b a) (lineRules b list) last))
       ∙ stands (opening b a ++ lineRules b list) last (refused-by (lineCheck b a list) (decide (opening b a ++ lineRules b list)) .0 e))
 
-  -- "Refusals: those of the line check, then 11 .."
-  pub path-refused : showPath b a list buffer .answer ≡ refused n p → (isNodeConvex b a list .answer ≡ refused n p) ⊎ (n ≡ 11)
+  -- "Refusals: those of the line check, then 11 ..": the promise says when 11, and with what place
+  pub path-refused : showPath b a list buffer .answer ≡ refused n p
+      → (isNodeConvex b a list .answer ≡ refused n p) ⊎ ((n ≡ 11) × (Trusted b a × StepList b list))
   unfolding showPath callInto isNodeConvex call rule11
   path-refused e =
       go
@@ -70,9 +72,9 @@ module _ (b a list buffer : List ℕ) {n p : ℕ} where
       last = asks buffer (backPath b list) ∷ []
 
       go : Refuses (opening b a ++ lineRules b list) last n p
-          → (answer (decide (opening b a ++ lineRules b list)) (lineCheck b a list) ≡ refused n p) ⊎ (n ≡ 11)
+          → (answer (decide (opening b a ++ lineRules b list)) (lineCheck b a list) ≡ refused n p) ⊎ ((n ≡ 11) × (Trusted b a × StepList b list))
       go (inl r) = inl (refused-by (lineCheck b a list) (decide (opening b a ++ lineRules b list)) .1 r)
-      go (inr r) = inr (by-number 11 (placed (ltb (length buffer) (length (stepsOf (backPath b list)))) (length (stepsOf (backPath b list)))) (r .1))
+      go (inr r) = inr (by-number 11 _ (r .1), line-passes b a list .0 (r .0))
 
 -- ---- the order check and the line check
 

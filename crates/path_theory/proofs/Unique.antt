@@ -1,4 +1,4 @@
--- The promise says enough: two answers that keep it with one room are the same, and where a path is said, its steps stand in both rooms.
+-- The promise says enough: two answers that keep it with one room are the same, and where a path is said, the path stands in the room.
 -- Rests on levels_theory's Only and on NoPath.
 use Prim.Native.Nat.{ℕ, _≤_}
 use native.Mathlib.Omega.{arith}
