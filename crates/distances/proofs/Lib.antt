@@ -1,3 +1,6 @@
 pub mod Joining
 pub mod Marking
+pub mod Passing
+pub mod Rounding
 pub mod Smallest
+pub mod Seeking
