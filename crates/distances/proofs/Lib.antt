@@ -4,3 +4,5 @@ pub mod Passing
 pub mod Rounding
 pub mod Smallest
 pub mod Seeking
+pub mod Reaching
+pub mod Open

@@ -3,7 +3,7 @@
 use Prim.Native.Nat.{ℕ, _<_, _≤_, min}
 use native.Mathlib.Omega.{arith}
 use mathlib.Core.Path.{_≡_, refl, sym, ap, _∙_}
-use mathlib.Core.Bool.{Bool, true, false, cond}
+use mathlib.Core.Bool.{Bool, true, false, _||_, cond}
 use mathlib.Core.List.{List, [], _∷_, _++_, append-assoc}
 use lib.Dec.{eqb}
 use borrow.Author.Tests.{eq-eqb}
@@ -42,6 +42,10 @@ found-nothing (at v) = refl
 pub smallest-none : (xs : List ℕ) → smallest xs ≡ absent → (v : ℕ) → member v xs ≡ false
 smallest-none [] e v = refl
 smallest-none (x ∷ xs) e v = absurd (let z : _≡_ {A = ℕ} 0 1 = cc in omega arith)
+
+pub smallest-some : (xs : List ℕ) {w : ℕ} → smallest xs ≡ at w → (v : ℕ) × (member v xs ≡ true)
+smallest-some [] e = absurd (let z : _≡_ {A = ℕ} 0 1 = cc in omega arith)
+smallest-some (x ∷ xs) e = (x, ap (λ (t : Bool). t || member x xs) (eq-eqb x x refl))
 
 module _ (xs ys : List ℕ) (same : Alike xs ys) {w : ℕ} (found : smallest xs ≡ at w) where
   pub smallest-least : w ≡ least ys
