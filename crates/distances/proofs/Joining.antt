@@ -20,7 +20,7 @@ use Rattle.walk_theory.specs.Joined.{Joined}
 use Rattle.walk_theory.proofs.Join.{join-old, join-new, member-join, joinAll-append, joinAll-extends}
 use Rattle.walk_theory.proofs.Joined.{join-joined, join-room}
 use Rattle.tables.proofs.Within.{within-none, within-both, within-set}
-use Rattle.distances.specs.Met.{tells, metSize, Met, Joins}
+use Rattle.distances.specs.Met.{tells, Met, Joins}
 
 -- ---- who is there when many have joined
 

@@ -6,15 +6,15 @@ use native.Mathlib.Numerals.{add-one}
 use native.Mathlib.Omega.{arith}
 use mathlib.Core.Path.{_≡_, refl, sym, ap, _∙_, subst}
 use mathlib.Core.Bool.{Bool, true, false, true≢false, _&&_, and-true, and-false}
-use mathlib.Core.List.{List, [], _∷_}
+use mathlib.Core.List.{List}
 use Rattle.lists.specs.Lists.{In, any, keep, member, least}
-use Rattle.lists.specs.Found.{absent, at}
+use Rattle.lists.specs.Found.{at}
 use Rattle.lists.proofs.Sections.{part}
 use Rattle.paper.specs.Map.{N}
 use Rattle.paper.specs.Path.{fedBy, levelAt, endsAt}
 use Rattle.order_theory.specs.Sound.{Sound}
 use Rattle.records_theory.proofs.Among.{same-truth}
-use Rattle.convexity_theory.proofs.Memberships.{in-mem, mem-in, in-member, member-in, in-keep, kept, any-some, some-any, Some}
+use Rattle.convexity_theory.proofs.Memberships.{in-mem, mem-in, in-member, member-in, in-keep, kept, any-some, some-any}
 use Rattle.levels_theory.proofs.Levels.{level-zero, nobody}
 use Rattle.levels_theory.proofs.Alike.{Alike}
 use Rattle.levels_theory.proofs.Bounds.{closes, never-closes}
@@ -108,6 +108,10 @@ module _ {b a : List ℕ} {queue n count : ℕ} where
   pub open-first : Reached b (part a queue count) a queue n 0 count 0 → Open b a queue n count 0 count 0 a
   open-first r =
       record { reached = r; before = λ e h. absurd (omega arith); list = refl; more = omega arith; kept = within-none }
+
+  -- while there are last ones, another round stays within the nodes
+  pub not-far : {from to d : ℕ} {m : List ℕ} → Open b a queue n count from to d m → from < to → d + 1 ≤ n
+  not-far o some = omega (arith, o .reached .deep, o .reached .met .few)
 
   -- a round brought no step
   pub never : {from to d : ℕ} {m : List ℕ} → Open b a queue n count from to d m → to ≤ from → Closed b a queue n count Never m

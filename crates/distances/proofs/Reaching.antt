@@ -5,10 +5,10 @@ use native.Mathlib.Decide.{decLt, ℕ-discrete}
 use native.Mathlib.Numerals.{add-one}
 use native.Mathlib.Nat.{add-zero, sub-zero}
 use native.Mathlib.Omega.{arith}
-use mathlib.Core.Path.{_≡_, refl, sym, ap, ap₂, _∙_, subst}
+use mathlib.Core.Path.{_≡_, refl, sym, ap, ap₂, _∙_}
 use mathlib.Core.Bool.{Bool, true, false, _&&_, _||_, not, and-true, and-false, or-false}
-use mathlib.Core.List.{List, [], _++_, flatMap}
-use lib.ListN.{length, getD, take, drop}
+use mathlib.Core.List.{List, _++_}
+use lib.ListN.{take, drop}
 use lib.Seq.{take-add, drop-drop}
 use lib.Dec.{eqb}
 use borrow.Author.Tests.{eq-eqb, ne-eqb}
@@ -16,16 +16,15 @@ use Rattle.lists.specs.Lists.{one, member, times}
 use Rattle.lists.proofs.Sections.{part}
 use Rattle.lists.proofs.Upto.{count-append}
 use Rattle.lists.proofs.Members.{times-member}
-use Rattle.paper.specs.Map.{N, outNeighbours}
+use Rattle.paper.specs.Map.{N}
 use Rattle.paper.specs.Path.{leads, fedBy, rounds, levelAt}
 use Rattle.order_theory.specs.Sound.{Sound}
-use Rattle.records_theory.proofs.Among.{same-truth}
 use Rattle.convexity_theory.proofs.Memberships.{member-in}
 use Rattle.levels_theory.proofs.Levels.{fed-by, level-zero, met-zero, met-next, level-member, level-next}
 use Rattle.levels_theory.proofs.Neighbours.{fed-out}
 use Rattle.levels_theory.proofs.Alike.{any-alike}
-use Rattle.distances.specs.Met.{tells, Met, ListMarked, Joins}
-use Rattle.distances.specs.Reached.{Told, Reached, targetsIn}
+use Rattle.distances.specs.Met.{tells, ListMarked, Joins}
+use Rattle.distances.specs.Reached.{Reached, targetsIn}
 use Rattle.distances.proofs.Joining.{member-append, member-joinAll, joins-rise, joins-keep}
 
 -- ---- tests

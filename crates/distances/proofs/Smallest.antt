@@ -5,9 +5,8 @@ use native.Mathlib.Omega.{arith}
 use mathlib.Core.Path.{_≡_, refl, sym, ap, _∙_}
 use mathlib.Core.Bool.{Bool, true, false, _||_, cond}
 use mathlib.Core.List.{List, [], _∷_, _++_, append-assoc}
-use lib.Dec.{eqb}
 use borrow.Author.Tests.{eq-eqb}
-use Rattle.lists.specs.Lists.{any, keep, member, least}
+use Rattle.lists.specs.Lists.{member, least}
 use Rattle.lists.specs.Found.{Found, absent, at, listed}
 use Rattle.lists.proofs.Upto.{keep-append}
 use Rattle.levels_theory.proofs.Alike.{Alike, least-alike}
