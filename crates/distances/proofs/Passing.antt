@@ -1,6 +1,7 @@
 -- What the loops pass over: the targets of a node's links, and the nodes of the queue between two places.
 -- Rests on neighbours' Targets and Keeping, and lists.Sections.
 use Prim.Native.Nat.{ℕ, suc, _+_, _-_, _≤_, _<_}
+use native.Mathlib.Nat.{sub-self}
 use native.Mathlib.Omega.{arith}
 use native.Mathlib.Numerals.{add-one}
 use mathlib.Core.Path.{_≡_, sym, ap, _∙_}
@@ -34,10 +35,7 @@ targetsTo b v i = map (outTarget b) (from (outStart b v) (i - outStart b v))
 
 pub no-targets : (b : List ℕ) (v : ℕ) → targetsTo b v (outStart b v) ≡ []
 unfolding targetsTo
-no-targets b v = ap (λ (k : ℕ). map (outTarget b) (from (outStart b v) k)) (nought (outStart b v))
-  where
-    nought : (x : ℕ) → x - x ≡ 0
-    nought x = omega arith
+no-targets b v = ap (λ (k : ℕ). map (outTarget b) (from (outStart b v) k)) (sub-self (outStart b v))
 
 pub targets-next : (b : List ℕ) (v i : ℕ) → outStart b v ≤ i → targetsTo b v (i + 1) ≡ targetsTo b v i ++ (outTarget b i ∷ [])
 unfolding targetsTo
@@ -78,8 +76,8 @@ module _ {b a : List ℕ} {n queue : ℕ} {at : Places} (st : Standing b a n que
       pub link-known : i < end → i < L b
       link-known h = omega (arith, ends, out-fits b (v + 1) (omega (arith, known-b)))
 
-      pub node-known : {w : ℕ} → i < end → w ≡ outTarget b i → w < n
-      node-known h e = omega (arith, e, target-known is-sound i (link-known h), st .linked .read .nodes)
+      pub target-below : {w : ℕ} → i < end → w ≡ outTarget b i → w < n
+      target-below h e = omega (arith, e, target-known is-sound i (link-known h), st .linked .read .nodes)
 
       -- all of them
       pub all-targets : i ≤ end → end ≤ i → targetsTo b v i ≡ outNeighbours b v
@@ -91,10 +89,7 @@ module _ {b a : List ℕ} {n queue : ℕ} {at : Places} (st : Standing b a n que
 
 pub no-nodes : (b a : List ℕ) (queue from : ℕ) → targetsIn b a queue from from ≡ []
 unfolding targetsIn flatMap
-no-nodes b a queue from = ap (λ (k : ℕ). flatMap (outNeighbours b) (part a (queue + from) k)) (nought from)
-  where
-    nought : (x : ℕ) → x - x ≡ 0
-    nought x = omega arith
+no-nodes b a queue from = ap (λ (k : ℕ). flatMap (outNeighbours b) (part a (queue + from) k)) (sub-self from)
 
 pub nodes-next : (b a : List ℕ) (queue from t : ℕ) {v : ℕ} → from ≤ t → queue + t < length a → v ≡ getD a (queue + t) 0
     → targetsIn b a queue from (t + 1) ≡ targetsIn b a queue from t ++ outNeighbours b v

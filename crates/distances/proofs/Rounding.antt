@@ -41,8 +41,8 @@ module _ {b a : List ℕ} {n queue to d : ℕ} {at : Places} (st : Standing b a 
     still-standing = standing-kept st (g .kept)
 
     module _ {v : ℕ} (read : v ≡ getD m (queue + t) 0) where
-      pub node-is-known : v < n
-      node-is-known = place-known (g .met) early read
+      pub node-known : v < n
+      node-known = place-known (g .met) early read
 
       pub nodes-more : {more : ℕ} {o : List ℕ} → Joins m queue n grown (outNeighbours b v) d more o
           → Joins a queue n to (targetsIn b a queue from (t + 1)) d more o

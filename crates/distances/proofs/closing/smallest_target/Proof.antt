@@ -10,7 +10,7 @@ use Rattle.lists.specs.Found.{listed}
 use Rattle.distances.specs.Smallest.{smallest, smallestSaid}
 use Rattle.distances.specs.Met.{listedOf}
 use Rattle.distances.proofs.Seeking.{links-none, links-more, links-all}
-use Rattle.distances.proofs.Passing.{room, targetsTo, targets-rise, link-known, node-known}
+use Rattle.distances.proofs.Passing.{room, targetsTo, targets-rise, link-known, target-below}
 use Rattle.distances.proofs.closing.smallest_target.Statement.{statement}
 use Rattle.distances.proofs.closing.smallest_target.Tie as tie
 
@@ -42,7 +42,7 @@ target-at-requires c κs =
 smaller-listed-requires : tie.Need-smaller-listed-requires Inv-loop μ-loop
 smaller-listed-requires c κs =
     let start = c .before .before .before .before .before .before .before in
-    (room (start .pre .0), node-known (start .pre .0) (start .pre .1) (c .before .before .before .targets-start2 .ensures) (c .before .loop-test .taken) (c .target-at .ensures))
+    (room (start .pre .0), target-below (start .pre .0) (start .pre .1) (c .before .before .before .targets-start2 .ensures) (c .before .loop-test .taken) (c .target-at .ensures))
 
 loop-again : tie.Need-loop-again Inv-loop μ-loop
 loop-again c =

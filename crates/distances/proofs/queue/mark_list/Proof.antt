@@ -4,7 +4,7 @@ use Prim.Native.Nat.{_-_, _≤_}
 use native.Mathlib.Omega.{arith}
 use borrow.Author.Needs.{needs}
 use Rattle.distances.specs.Met.{Listed}
-use Rattle.distances.proofs.Marking.{Marking, still-listed, marking-starts, node-inside, mark-inside, marking-next, list-marked}
+use Rattle.distances.proofs.Marking.{Marking, still-listed, marking-starts, listed-inside, mark-inside, marking-next, list-marked}
 use Rattle.distances.proofs.queue.mark_list.Statement.{statement}
 use Rattle.distances.proofs.queue.mark_list.Tie as tie
 
@@ -32,7 +32,7 @@ loop-holds c =
     )
 
 slice-read-wide : tie.Need-slice-read-wide Inv-loop μ-loop
-slice-read-wide c = node-inside (c .before .before .loop .inv .1) (c .before .loop-test .taken) (c .before .before .loop .inv .2)
+slice-read-wide c = listed-inside (c .before .before .loop .inv .1) (c .before .loop-test .taken) (c .before .before .loop .inv .2)
 
 add-area-2 : tie.Need-add-area-2 Inv-loop μ-loop
 add-area-2 c =

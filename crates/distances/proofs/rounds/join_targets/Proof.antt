@@ -6,7 +6,7 @@ use borrow.Author.Needs.{needs}
 use Rattle.neighbours.specs.Linked.{outStart}
 use Rattle.distances.specs.Met.{Joins}
 use Rattle.distances.proofs.Rounding.{links-start, links-next}
-use Rattle.distances.proofs.Passing.{standing-kept, targetsTo, targets-rise, link-known, node-known, all-targets}
+use Rattle.distances.proofs.Passing.{standing-kept, targetsTo, targets-rise, link-known, target-below, all-targets}
 use Rattle.distances.proofs.Joining.{joins-as}
 use Rattle.distances.proofs.rounds.join_targets.Statement.{statement}
 use Rattle.distances.proofs.rounds.join_targets.Tie as tie
@@ -47,7 +47,7 @@ join-requires : tie.Need-join-requires Inv-loop μ-loop
 join-requires c κs =
     let head = c .before .before .before .before in
     let start = head .before .before .before .before .before .before .before in
-    (head .loop .inv .2 .met, (node-known (start .pre .0) (start .pre .1 .1 .0) (c .before .before .before .before .before .targets-start2 .ensures) (c .before .before .before .loop-test .taken) (c .before .target-at .ensures), start .pre .1 .1 .1))
+    (head .loop .inv .2 .met, (target-below (start .pre .0) (start .pre .1 .1 .0) (c .before .before .before .before .before .targets-start2 .ensures) (c .before .before .before .loop-test .taken) (c .before .target-at .ensures), start .pre .1 .1 .1))
 
 loop-less : tie.Need-loop-less Inv-loop μ-loop
 loop-less c = omega (arith, c .before .before .before .before .before .before .loop-test .taken)

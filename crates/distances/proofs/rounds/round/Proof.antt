@@ -6,7 +6,7 @@ use borrow.Author.Needs.{needs}
 use Rattle.lists.proofs.Upto.{at-the-end}
 use Rattle.distances.specs.Reached.{targetsIn}
 use Rattle.distances.specs.Met.{Joins}
-use Rattle.distances.proofs.Rounding.{nodes-start, node-inside, still-standing, node-is-known, nodes-more}
+use Rattle.distances.proofs.Rounding.{nodes-start, node-inside, still-standing, node-known, nodes-more}
 use Rattle.distances.proofs.Joining.{joins-as}
 use Rattle.distances.proofs.rounds.round.Statement.{statement}
 use Rattle.distances.proofs.rounds.round.Tie as tie
@@ -38,7 +38,7 @@ join-targets-requires c κs =
       (
         head .loop .inv .2 .met,
         (
-          node-is-known (start .pre .0) (start .pre .1 .0) (start .args .from) (head .loop .inv .0) (c .before .before .before .loop-test .taken) (head .loop .inv .2) (c .before .word-at .ensures),
+          node-known (start .pre .0) (start .pre .1 .0) (start .args .from) (head .loop .inv .0) (c .before .before .before .loop-test .taken) (head .loop .inv .2) (c .before .word-at .ensures),
           start .pre .1 .1 .1,
         ),
       ),
