@@ -9,3 +9,4 @@ pub mod Cleared
 pub mod Records
 pub mod Whole
 pub mod Said
+pub mod Taken
