@@ -5,6 +5,7 @@ pub mod examples;
 pub mod limits;
 pub mod maps;
 pub mod other_tables;
+pub mod pairs;
 pub mod paper;
 pub mod small;
 pub mod tables;
