@@ -2,6 +2,7 @@
 
 pub mod drawn;
 pub mod examples;
+pub mod layers;
 pub mod limits;
 pub mod maps;
 pub mod other_tables;

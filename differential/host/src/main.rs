@@ -1,4 +1,4 @@
-//! Runs the library beside the given Rust, on 01's domain, and beside a plain reading of 01, everywhere. One difference ends it.
+//! Runs the library beside the given Rust, on 01's domain, and beside a plain reading of 01 and 02, everywhere. One difference ends it.
 //!
 //! `beside [--seed S] [--count C | --seconds T]`
 //! `beside --replay FILE`
@@ -18,7 +18,7 @@ mod written;
 use bench::{Bench, Compared};
 use kinds::pairs::PairMaps;
 use kinds::small::SmallMaps;
-use kinds::{drawn, examples, limits, maps, pairs, paper, small, tables};
+use kinds::{drawn, examples, layers, limits, maps, pairs, paper, small, tables};
 use oracle::random::Random;
 use plain::{asker, call, lists, reading};
 use std::process::ExitCode;
@@ -89,6 +89,7 @@ fn compare(
         small::round(bench, small_maps, SMALL)?;
         pairs::round(bench, pair_maps, PAIRS)?;
         drawn::round(bench, &mut random, round)?;
+        layers::round(bench, &mut random)?;
         tables::round(bench, &mut random, round)?;
         maps::round(bench, &mut random)?;
         round += 1;

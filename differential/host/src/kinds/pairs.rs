@@ -42,20 +42,29 @@ fn many(nodes: usize) -> usize {
     3usize.pow((nodes * nodes.saturating_sub(1) / 2) as u32)
 }
 
-/// Each link has an input of its own. In every other map it has an output of its own too; else all links of a node are on one output.
-fn map(count: usize, number: usize) -> StepMap {
-    let mut nodes = vec![Node { inputs: 0, outputs: 0 }; count];
+fn map(nodes: usize, number: usize) -> StepMap {
     let mut links = Vec::new();
     let mut digits = number;
-    for (one, other) in (0..count).flat_map(|one| (one + 1..count).map(move |other| (one, other))) {
-        if digits % 3 > 0 {
-            let (from, to) = if digits % 3 == 1 { (one, other) } else { (other, one) };
-            let output = if number % 2 == 0 { nodes[from].outputs } else { 0 };
-            links.push(Link { from, output, to, input: nodes[to].inputs });
-            nodes[from].outputs = output + 1;
-            nodes[to].inputs += 1;
+    for (one, other) in (0..nodes).flat_map(|one| (one + 1..nodes).map(move |other| (one, other))) {
+        match digits % 3 {
+            0 => (),
+            1 => links.push((one, other)),
+            _ => links.push((other, one)),
         }
         digits /= 3;
+    }
+    linked(nodes, &links, number % 2 == 0)
+}
+
+/// A map with links from node to node. Each has an input of its own; its output is its own too, or the one that all links of its node are on.
+pub fn linked(count: usize, pairs: &[(usize, usize)], apart: bool) -> StepMap {
+    let mut nodes = vec![Node { inputs: 0, outputs: 0 }; count];
+    let mut links = Vec::new();
+    for &(from, to) in pairs {
+        let output = if apart { nodes[from].outputs } else { 0 };
+        links.push(Link { from, output, to, input: nodes[to].inputs });
+        nodes[from].outputs = output + 1;
+        nodes[to].inputs += 1;
     }
     StepMap::new(nodes, links)
 }
