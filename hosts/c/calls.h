@@ -4,7 +4,7 @@
 
 #include "varddohas.h"
 
-enum exported { PREPARE, LINE, LINE_PORTS, TOPO, TOPO_PORTS, INTERVALS, BY_INTERVALS, EXTEND, NODES, PORT, VIEW, EXPORTS };
+enum exported { PREPARE, LINE, LINE_PORTS, TOPO, TOPO_PORTS, INTERVALS, BY_INTERVALS, EXTEND, NODES, PORT, VIEW, PATH, EXPORTS };
 
 struct slice {
     uint8_t *at;
@@ -59,6 +59,9 @@ static void make_call(const struct call *c, struct told *told) {
         break;
     case VIEW:
         told->result = varddohas_view_lines_at_port(LENT(c->map), LENT(c->area), c->node, &told->first, &told->second, REFUSAL);
+        break;
+    case PATH:
+        told->result = varddohas_show_path(LENT(c->map), LENT(c->area), LENT(c->list), LENT(c->buffer), &told->first, REFUSAL);
         break;
     case EXPORTS:
         break;

@@ -63,15 +63,19 @@ static const struct row {
     {PORT, OF(area), 0, VARDDOHAS_REFUSED, 0, 3, 0},
     {VIEW, OF(map), 0, VARDDOHAS_REFUSED, 0, 1, 0},
     {VIEW, OF(area), 0, VARDDOHAS_REFUSED, 0, 3, 0},
+    {PATH, OF(map), 0, VARDDOHAS_REFUSED, 0, 1, 0},
+    {PATH, OF(area), 0, VARDDOHAS_REFUSED, 0, 3, 0},
+    {PATH, OF(list), 0, VARDDOHAS_REFUSED, 0, 8, 0},
+    {PATH, OF(buffer), 0, VARDDOHAS_REFUSED, 0, 11, 3},
 };
 
-/* The call of a row without its NULL: steps 0 and 1 or the record of step 0, input port 1 and output port 0, all known to map B. */
+/* The call of a row without its NULL: steps 0 and 1, for a path 0 and 3, or the record of step 0, input port 1 and output port 0, all known to map B. */
 static struct call whole(const struct row *row) {
-    static const uint16_t steps[] = {0, 1}, of_step_0[] = {0, 0, 0}, port_1[] = {1}, port_0[] = {0};
+    static const uint16_t steps[] = {0, 1}, apart[] = {0, 3}, of_step_0[] = {0, 0, 0}, port_1[] = {1}, port_0[] = {0};
     static uint8_t inputs[2], outputs[2];
     int records = row->which == BY_INTERVALS || row->which == EXTEND || row->which == NODES;
     struct call call = {.which = row->which, .map = {map, sizeof map}, .area = {area, sizeof area}, .many = row->many};
-    call.list = records ? put_words(record, of_step_0, 3) : put_words(list, steps, 2);
+    call.list = records ? put_words(record, of_step_0, 3) : put_words(list, row->which == PATH ? apart : steps, 2);
     call.inputs = put_words(inputs, port_1, 1);
     call.outputs = put_words(outputs, port_0, 1);
     call.buffer.at = buffer;

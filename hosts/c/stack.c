@@ -33,6 +33,7 @@ static const struct promise {
     [NODES] = {"nodes_in_intervals", VARDDOHAS_STACK_NODES_IN_INTERVALS, 0, OPENING | R(7) | R(11) | R(12) | R(13)},
     [PORT] = {"lines_at_port", VARDDOHAS_STACK_LINES_AT_PORT, 0, OPENING | R(7) | R(14)},
     [VIEW] = {"view_lines_at_port", VARDDOHAS_STACK_VIEW_LINES_AT_PORT, 0, OPENING | R(7) | R(14)},
+    [PATH] = {"show_path", VARDDOHAS_STACK_SHOW_PATH, 1, OPENING | R(7) | R(8) | R(9) | R(10) | R(11)},
 };
 
 /* The most that each export used, and the results and refusals that were met. */
@@ -86,8 +87,9 @@ static void measure(void) {
         met[call.which].refusals |= 1u << told.number;
 }
 
-/* The maps: a small one, one of 512 nodes that each link to the four after them, and one for each of refusals 1, 2, 4, 5 and 6. */
-enum { SMALL, LARGE, MALFORMED, TOO_LARGE, MISSING, SECOND, RING, MAPS };
+/* The maps: a small one, one of 512 nodes that each link to the four after them, a chain of 512, whose ends have the longest path, and one for each of
+ * refusals 1, 2, 4, 5 and 6. */
+enum { SMALL, LARGE, CHAIN, MALFORMED, TOO_LARGE, MISSING, SECOND, RING, MAPS };
 static uint8_t map_room[MAPS][4 * 513 + 8 * 2048 + 12];
 static struct slice maps[MAPS];
 
@@ -103,12 +105,25 @@ static void put_map(int which, size_t nodes, uint16_t (*node)[2], size_t links, 
     maps[which].bytes = 4 * nodes + 8 * links + 12;
 }
 
+/* 512 nodes, each linked to so many after it. */
+static void put_linked(int which, uint16_t after) {
+    static uint16_t node[512][2], link[2048][4];
+    size_t links = 0;
+    for (uint16_t v = 0; v < 512; v++) {
+        node[v][0] = node[v][1] = after;
+        for (uint16_t j = 0; j < after && v + 1 + j < 512; j++, links++) {
+            uint16_t to[] = {v, j, (uint16_t)(v + 1 + j), j};
+            memcpy(link[links], to, sizeof to);
+        }
+    }
+    put_map(which, 512, node, links, link);
+}
+
 static void put_maps(void) {
-    static uint16_t node[513][2], link[2048][4];
+    static uint16_t node[513][2], link[1][4];
     uint16_t b[][2] = {{0, 1}, {1, 2}, {1, 0}, {1, 0}, {0, 1}, {1, 1}, {1, 0}}, ring[][2] = {{1, 1}, {1, 1}};
     uint16_t b_links[][4] = {{0, 0, 1, 0}, {1, 0, 2, 0}, {1, 1, 3, 0}, {4, 0, 5, 0}, {5, 0, 6, 0}};
     uint16_t ring_links[][4] = {{0, 0, 1, 0}, {1, 0, 0, 0}};
-    size_t links = 0;
     put_map(SMALL, 7, b, 5, b_links);
     put_map(MALFORMED, 7, b, 5, b_links);
     maps[MALFORMED].bytes--;
@@ -118,18 +133,12 @@ static void put_maps(void) {
     put_map(MISSING, 7, b, 5, b_links);
     b_links[4][2] = 5;
     put_map(SECOND, 7, b, 5, b_links);
-    for (uint16_t v = 0; v < 512; v++) {
-        node[v][0] = node[v][1] = 4;
-        for (uint16_t j = 0; j < 4 && v + 1 + j < 512; j++, links++) {
-            uint16_t to[] = {v, j, (uint16_t)(v + 1 + j), j};
-            memcpy(link[links], to, sizeof to);
-        }
-    }
-    put_map(LARGE, 512, node, links, link);
+    put_linked(LARGE, 4);
+    put_linked(CHAIN, 1);
 }
 
 /* Words that are asked as a list, as port lists and as records. */
-enum { LONGEST = 512, WORDS = 13 };
+enum { LONGEST = 512, WORDS = 14 };
 static const struct {
     size_t many;
     uint16_t words[6];
@@ -141,6 +150,7 @@ static const struct {
     {2, {0, 2}},
     {2, {0, 3}},
     {2, {0, 6}},
+    {2, {0, 511}},
     {2, {3, 3}},
     {3, {0, 0, 0}},
     {3, {0, 0, 1}},
@@ -175,6 +185,7 @@ static const struct variety {
     [NODES] = {WORDS + 1, 1, 1, 4, 1, 2},
     [PORT] = {1, 1, 1, 1, 4, 1},
     [VIEW] = {1, 1, 1, 1, 4, 1},
+    [PATH] = {WORDS + 1, 1, 1, 1, 1, 2},
 };
 
 /* The digit of `rest` in a base, which is taken off it. */

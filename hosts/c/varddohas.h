@@ -5,7 +5,7 @@
  * last byte is neither read nor written. Where a slice is empty its pointer may be anything, NULL too; a pointer to a number must not be NULL. Slices
  * and numbers that are written must not overlap anything else that is passed.
  *
- * The result is the case: VARDDOHAS_ANSWER (or yes), VARDDOHAS_NO (no, not contiguous or not extendable), VARDDOHAS_REFUSED. On a refusal `number` and
+ * The result is the case: VARDDOHAS_ANSWER (or yes), VARDDOHAS_NO (no, not contiguous, not extendable or no path), VARDDOHAS_REFUSED. On a refusal `number` and
  * `place` are those of document 01's table, and the values stay as they were; else `number` and `place` stay as they were, and so do values that the
  * case does not have.
  *
@@ -94,6 +94,14 @@ uint64_t varddohas_lines_at_port(const uint8_t *map, size_t map_bytes, uint8_t *
 #define VARDDOHAS_STACK_VIEW_LINES_AT_PORT 135168
 uint64_t varddohas_view_lines_at_port(const uint8_t *map, size_t map_bytes, const uint8_t *area, size_t area_bytes, size_t port,
                                       uint64_t *offset, uint64_t *count, uint64_t *number, uint64_t *place);
+
+/* The path that a no shows: steps that start in the list, end in it and leave it between, each linked to the next; none is shorter. As 16-bit words into the
+ * buffer. count: the steps written, with both ends. NO: no path, exactly where the line check says yes. Refusals 1 to 5, 7, 8, 9, 10, 11; a list without a
+ * path needs no room. A buffer of as many words as the map has nodes has room for every path. */
+#define VARDDOHAS_STACK_SHOW_PATH 155648
+uint64_t varddohas_show_path(const uint8_t *map, size_t map_bytes, uint8_t *area, size_t area_bytes,
+                             const uint8_t *list, size_t list_bytes, uint8_t *buffer, size_t buffer_bytes,
+                             uint64_t *count, uint64_t *number, uint64_t *place);
 
 #ifdef __cplusplus
 }

@@ -44,6 +44,15 @@ impl Bench {
         Ok(left)
     }
 
+    /// Calls the library and compares with the reading; the Rust says which case it is, and no more.
+    pub fn ask_case_beside(&mut self, call: &Call, case: u64) -> Compared<Outcome> {
+        let left = library::outcome(call);
+        equal(call, &left, "the Rust's yes or no", &Outcome { case, ..left.clone() })?;
+        equal(call, &left, "the reading", &reading::outcome(call))?;
+        self.figures.add(call.name, &left, true);
+        Ok(left)
+    }
+
     /// Calls the library and compares with the reading and with what is written down.
     pub fn ask_for(&mut self, call: &Call, written: &Outcome) -> Compared<Outcome> {
         let left = library::outcome(call);

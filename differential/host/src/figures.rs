@@ -28,6 +28,8 @@ pub struct Figures {
     refusals: BTreeMap<u64, usize>,
     /// Line checks whose walk counted nodes: those that said yes, those that said no.
     walks: [usize; 2],
+    /// Paths by their number of steps.
+    paths: BTreeMap<u64, usize>,
 }
 
 impl Figures {
@@ -47,6 +49,7 @@ impl Figures {
         match outcome.case {
             3 => *self.refusals.entry(outcome.number).or_default() += 1,
             case if walks && outcome.values[0] > 0 => self.walks[case as usize - 1] += 1,
+            1 if name == Name::ShowPath => *self.paths.entry(outcome.values[0]).or_default() += 1,
             _ => (),
         }
     }
@@ -60,12 +63,17 @@ impl Figures {
         lines.extend(self.kinds.iter().map(|(kind, row)| line(kind, row)));
         lines.push(head("export"));
         lines.extend(self.exports.iter().map(|(name, row)| line(name.text(), row)));
-        let refusals = self.refusals.iter().map(|(number, count)| format!("{number}: {count}"));
-        lines.push(format!("refusals by number: {}", refusals.collect::<Vec<String>>().join(", ")));
+        lines.push(format!("refusals by number: {}", counts(&self.refusals)));
         let [yes, no] = self.walks;
         lines.push(format!("line checks whose walk counted: {yes} yes, {no} no"));
+        lines.push(format!("paths by their steps: {}", counts(&self.paths)));
         lines
     }
+}
+
+fn counts(by_number: &BTreeMap<u64, usize>) -> String {
+    let counts = by_number.iter().map(|(number, count)| format!("{number}: {count}"));
+    counts.collect::<Vec<String>>().join(", ")
 }
 
 fn head(first: &str) -> String {

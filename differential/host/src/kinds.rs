@@ -2,9 +2,11 @@
 
 pub mod drawn;
 pub mod examples;
+pub mod layers;
 pub mod limits;
 pub mod maps;
 pub mod other_tables;
+pub mod pairs;
 pub mod paper;
 pub mod small;
 pub mod tables;

@@ -30,6 +30,8 @@ extern "C" {
         number: Value, place: Value) -> u64;
     fn varddohas_topo_is_convex(map: Bytes, m: usize, area: MutBytes, a: usize, list: Bytes, l: usize,
         inputs: Bytes, i: usize, outputs: Bytes, o: usize, number: Value, place: Value) -> u64;
+    fn varddohas_show_path(map: Bytes, m: usize, area: MutBytes, a: usize, list: Bytes, l: usize,
+        buffer: MutBytes, b: usize, count: Value, number: Value, place: Value) -> u64;
 }
 
 /// A guard stands before and after each lent part. Its length is odd, so that parts begin at odd addresses too.
@@ -134,6 +136,7 @@ fn run(call: &Call, lent: &mut Lent, values: &mut [u64; 9]) -> u64 {
             Name::TopoIsConvex => {
                 varddohas_topo_is_convex(map, m, area, a, list, l, inputs, i, outputs, o, number, place)
             }
+            Name::ShowPath => varddohas_show_path(map, m, area, a, list, l, buffer, b, first, number, place),
         }
     }
 }

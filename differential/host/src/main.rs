@@ -1,4 +1,4 @@
-//! Runs the library beside the given Rust, on 01's domain, and beside a plain reading of 01, everywhere. One difference ends it.
+//! Runs the library beside the given Rust, on 01's domain, and beside a plain reading of 01 and 02, everywhere. One difference ends it.
 //!
 //! `beside [--seed S] [--count C | --seconds T]`
 //! `beside --replay FILE`
@@ -6,6 +6,7 @@
 //! For a seed and a count the output is always the same.
 
 mod bench;
+mod every_path;
 mod figures;
 mod kinds;
 mod library;
@@ -15,16 +16,18 @@ mod wishes;
 mod written;
 
 use bench::{Bench, Compared};
+use kinds::pairs::PairMaps;
 use kinds::small::SmallMaps;
-use kinds::{drawn, examples, limits, maps, paper, small, tables};
+use kinds::{drawn, examples, layers, limits, maps, pairs, paper, small, tables};
 use oracle::random::Random;
 use plain::{asker, call, lists, reading};
 use std::process::ExitCode;
 use std::time::{Duration, Instant};
 use wishes::{Until, Wishes};
 
-/// Calls on small maps in one round.
+/// Calls on small maps in one round, and on maps of linked pairs.
 const SMALL: usize = 3000;
+const PAIRS: usize = 3000;
 
 fn main() -> ExitCode {
     let words: Vec<String> = std::env::args().skip(1).collect();
@@ -44,8 +47,9 @@ fn main() -> ExitCode {
 fn run(seed: u64, until: Until) -> ExitCode {
     let mut bench = Bench::default();
     let mut small_maps = SmallMaps::new();
+    let mut pair_maps = PairMaps::default();
     println!("differential: seed {seed}, {until}");
-    let compared = compare(&mut bench, &mut small_maps, seed, until);
+    let compared = compare(&mut bench, &mut small_maps, &mut pair_maps, seed, until);
     if let Err(difference) = compared {
         println!("{}", difference.0);
         println!("differential: a DIFFERENCE after {} calls without one", bench.calls());
@@ -58,12 +62,19 @@ fn run(seed: u64, until: Until) -> ExitCode {
         "small maps: {} of up to 4 nodes, {complete} (a map's size is its nodes, links and unlinked ports together)",
         small_maps.count
     );
+    println!("linked pairs: {}", pair_maps.complete());
     println!("differential: {} calls compared, no difference", bench.calls());
     ExitCode::SUCCESS
 }
 
 /// What comes once, and then round after round until there is enough.
-fn compare(bench: &mut Bench, small_maps: &mut SmallMaps, seed: u64, until: Until) -> Compared<()> {
+fn compare(
+    bench: &mut Bench,
+    small_maps: &mut SmallMaps,
+    pair_maps: &mut PairMaps,
+    seed: u64,
+    until: Until,
+) -> Compared<()> {
     let start = Instant::now();
     let mut random = Random::new(seed);
     paper::all(bench)?;
@@ -76,7 +87,9 @@ fn compare(bench: &mut Bench, small_maps: &mut SmallMaps, seed: u64, until: Unti
     let mut round = 0;
     while !enough(bench) {
         small::round(bench, small_maps, SMALL)?;
+        pairs::round(bench, pair_maps, PAIRS)?;
         drawn::round(bench, &mut random, round)?;
+        layers::round(bench, &mut random)?;
         tables::round(bench, &mut random, round)?;
         maps::round(bench, &mut random)?;
         round += 1;

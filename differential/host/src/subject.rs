@@ -2,11 +2,13 @@
 
 use crate::bench::{Bench, Compared, Difference};
 use crate::call::{junk, number_bytes, put, words, Call, Name, Outcome};
+use crate::every_path;
 use oracle::map_bytes;
 use oracle::oracle::{flat, Oracle, Walked};
 use oracle::preparing;
 use oracle::step_map::StepMap;
 use portgraph::algorithms::LineIntervals;
+use std::ops::Range;
 use std::rc::Rc;
 
 pub struct Subject<'m> {
@@ -86,6 +88,28 @@ impl<'m> Subject<'m> {
         self.extensions(bench, &records, nodes)
     }
 
+    /// The path of a list without repeats and not empty: in more room than any path needs, and in each of the rooms that are named for its steps.
+    /// The Rust says whether there is one, and on a small map all paths that there are say which.
+    pub fn path(&self, bench: &mut Bench, list: &[usize], rooms: fn(usize) -> Range<usize>) -> Compared<()> {
+        let call = |room: usize| self.call(Name::ShowPath).list(number_bytes(list)).buffer(junk(room));
+        let map = self.step_map();
+        let roomy = call(2 * map.nodes().len() + 3);
+        let convex = self.oracle.line_check(list).yes;
+        let left = match map.nodes().len() <= every_path::MOST_NODES {
+            true => {
+                let first = every_path::first(map.links(), list);
+                assert_eq!(first.is_none(), convex, "the Rust and all paths that there are differ on {list:?}");
+                bench.ask_beside(&roomy, &shown(&roomy, first))?
+            }
+            false => bench.ask_case_beside(&roomy, if convex { 2 } else { 1 })?,
+        };
+        let steps = if left.case == 1 { left.values[0] as usize } else { 0 };
+        for room in rooms(steps) {
+            bench.ask(&call(room))?;
+        }
+        Ok(())
+    }
+
     /// The order check on a list that may be empty or have repeats.
     pub fn loose_list(&self, bench: &mut Bench, list: &[usize]) -> Compared<()> {
         let call = self.call(Name::TopoIsNodeConvex).list(number_bytes(list));
@@ -156,6 +180,24 @@ impl<'m> Subject<'m> {
         }
         Err(Box::new(Difference(format!("the lines of port {port} are not those of the Rust: {:?}", said.lines))))
     }
+}
+
+/// Rooms for a path, in bytes: one that just has room for so many steps, and one that is a byte shorter.
+pub fn about(steps: usize) -> Range<usize> {
+    (2 * steps).saturating_sub(1)..2 * steps + 1
+}
+
+/// Every room from none to one that just has room for so many steps.
+pub fn up_to(steps: usize) -> Range<usize> {
+    0..2 * steps + 1
+}
+
+fn shown(call: &Call, path: Option<Vec<usize>>) -> Outcome {
+    let Some(steps) = path else {
+        return Outcome::said(call, 2, &[], &[]);
+    };
+    let result: Vec<u16> = steps.iter().map(|&node| node as u16).collect();
+    Outcome::said(call, 1, &[steps.len() as u64], &result)
 }
 
 fn walked(call: &Call, walked: Walked) -> Outcome {

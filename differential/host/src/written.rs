@@ -88,6 +88,29 @@ impl Prepared {
         Ok(())
     }
 
+    /// The path, in room for so many words: its steps, or none for "no path".
+    pub fn path(&self, bench: &mut Bench, list: &[u16], room: usize, steps: &[u16]) -> Compared<()> {
+        let call = self.call(Name::ShowPath).list(bytes(list)).buffer(junk(2 * room));
+        let written = match steps.len() as u64 {
+            0 => Outcome::said(&call, 2, &[], &[]),
+            count => Outcome::said(&call, 1, &[count], steps),
+        };
+        bench.ask_for(&call, &written)?;
+        Ok(())
+    }
+
+    pub fn path_refused(
+        &self,
+        bench: &mut Bench,
+        list: &[u16],
+        room: usize,
+        [number, place]: [u64; 2],
+    ) -> Compared<()> {
+        let call = self.call(Name::ShowPath).list(bytes(list)).buffer(junk(2 * room));
+        bench.ask_for(&call, &Outcome::refused(&call, number, place))?;
+        Ok(())
+    }
+
     /// Both checks with ports: the case, with a count of 0.
     pub fn with_ports(&self, bench: &mut Bench, list: &[u16], [input, output]: [u16; 2], case: u64) -> Compared<()> {
         for (name, values) in [(Name::LineIsConvex, &[0][..]), (Name::TopoIsConvex, &[])] {

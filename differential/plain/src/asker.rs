@@ -20,7 +20,12 @@ pub struct Asker<'a> {
 impl Asker<'_> {
     /// A call of any function, preparing only at times.
     pub fn call(&self, random: &mut Random, map: &Rc<[u8]>, area: &Rc<[u8]>) -> Call {
-        let name = if random.one_in(24) { Name::Prepare } else { Name::ALL[1 + random.below(10)].0 };
+        self.call_among(Name::ALL.len(), random, map, area)
+    }
+
+    /// A call of any of the first so many functions, preparing only at times.
+    pub fn call_among(&self, names: usize, random: &mut Random, map: &Rc<[u8]>, area: &Rc<[u8]>) -> Call {
+        let name = if random.one_in(24) { Name::Prepare } else { Name::ALL[1 + random.below(names - 1)].0 };
         let call = Call::new(name, map, area);
         match name {
             Name::Prepare => call,
@@ -34,6 +39,7 @@ impl Asker<'_> {
             Name::TryExtendIntervals => self.extension(random, call),
             Name::NodesInIntervals => self.nodes_in(random, call),
             Name::LinesAtPort | Name::ViewLinesAtPort => call.index(index(random, self.steps.port_count())),
+            Name::ShowPath => self.path(random, call),
         }
     }
 
@@ -85,6 +91,17 @@ impl Asker<'_> {
         let list = self.good_list(random);
         let records = self.question().intervals(&list).map_or(0, |records| records.len());
         let room = room(random, 3 * records);
+        call.list(number_bytes(&list)).buffer(room)
+    }
+
+    fn path(&self, random: &mut Random, call: Call) -> Call {
+        if random.one_in(3) {
+            let room = junk(random.below(40));
+            return call.list(self.list(random)).buffer(room);
+        }
+        let list = self.good_list(random);
+        let steps = self.question().path(&list).map_or(0, |steps| steps.len());
+        let room = room(random, steps);
         call.list(number_bytes(&list)).buffer(room)
     }
 

@@ -16,10 +16,12 @@ pub enum Name {
     ViewLinesAtPort,
     TopoIsNodeConvex,
     TopoIsConvex,
+    ShowPath,
 }
 
 impl Name {
-    pub const ALL: [(Name, &'static str); 11] = [
+    /// Those of 01 first, then the one of 02.
+    pub const ALL: [(Name, &'static str); 12] = [
         (Name::Prepare, "prepare"),
         (Name::LineIsNodeConvex, "line_is_node_convex"),
         (Name::LineIsConvex, "line_is_convex"),
@@ -31,7 +33,11 @@ impl Name {
         (Name::ViewLinesAtPort, "view_lines_at_port"),
         (Name::TopoIsNodeConvex, "topo_is_node_convex"),
         (Name::TopoIsConvex, "topo_is_convex"),
+        (Name::ShowPath, "show_path"),
     ];
+
+    /// How many of them are 01's.
+    pub const OF_01: usize = 11;
 
     pub fn text(self) -> &'static str {
         Self::ALL[self as usize].1

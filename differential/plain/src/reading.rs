@@ -1,13 +1,15 @@
-//! Document 01 read plainly: the whole outcome of every call, refusals, places and lent words included.
+//! Documents 01 and 02 (No. 1) read plainly: the whole outcome of every call, refusals, places and lent words included.
 //!
-//! Written from 01's text alone, for looking at and not for speed. Refusals 1, 2, 4 and 5 and the sizes of the sections are the oracle's
+//! Written from their text alone, for looking at and not for speed. Refusals 1, 2, 4 and 5 and the sizes of the sections are the oracle's
 //! (`map_bytes.rs`, `preparing.rs`), which read them from 01 too.
 //!
 //! - [`steps`]: a map's ports and links, its order and its lines;
 //! - [`tables`]: the tables in the area: written, and read if 01 accepts them;
 //! - [`questions`]: the questions;
+//! - [`path`]: the path that a no shows, of 02;
 //! - [`rules`]: refusals 8 to 14.
 
+pub mod path;
 pub mod questions;
 pub mod rules;
 pub mod steps;
@@ -21,7 +23,7 @@ use rules::{rule, LentRecords};
 use steps::Steps;
 use tables::{Sections, Tables};
 
-/// An answer: its case (1 is an answer or yes; 2 is no, not contiguous or not extendable), its values, its result's words.
+/// An answer: its case (1 is an answer or yes; 2 is no, not contiguous, not extendable or no path), its values, its result's words.
 struct Said {
     case: u64,
     values: Vec<usize>,
@@ -74,6 +76,7 @@ fn answer(call: &Call, area: &mut [u16]) -> Result<Said, Refusal> {
         Name::TryExtendIntervals => extension(call, &question),
         Name::NodesInIntervals => nodes_in_records(call, &question),
         Name::LinesAtPort | Name::ViewLinesAtPort => port_lines(call, &sections, &question),
+        Name::ShowPath => path_shown(call, &question),
     }
 }
 
@@ -88,11 +91,17 @@ fn conflict(call: &Call, question: &Question) -> Result<bool, Refusal> {
     Ok(question.have_conflict(&inputs, &outputs))
 }
 
-fn line_check(call: &Call, question: &Question) -> Result<Said, Refusal> {
+/// The list of a line check, or 8, 9 or 10.
+fn checked_list(call: &Call, question: &Question) -> Result<Vec<usize>, Refusal> {
     let list = numbers(&call.list);
     rule(8, list.is_empty()).at(0)?;
     rules::known_nodes(question, &list)?;
     rules::no_repeats(&list)?;
+    Ok(list)
+}
+
+fn line_check(call: &Call, question: &Question) -> Result<Said, Refusal> {
+    let list = checked_list(call, question)?;
     if conflict(call, question)? {
         return Ok(Said::walked((false, 0)));
     }
@@ -140,10 +149,23 @@ fn written(call: &Call, records: Option<Vec<Record>>) -> Result<Said, Refusal> {
 
 fn nodes_in_records(call: &Call, question: &Question) -> Result<Said, Refusal> {
     let records = LentRecords::of(call).records(question)?;
-    let nodes = question.nodes_in(&records);
+    nodes_written(call, &question.nodes_in(&records))
+}
+
+/// Nodes as a result.
+fn nodes_written(call: &Call, nodes: &[usize]) -> Result<Said, Refusal> {
     rule(11, nodes.len() > words(call.room()).len()).at(nodes.len())?;
     let result = nodes.iter().map(|&node| node as u16).collect();
     Ok(Said { case: 1, values: vec![nodes.len()], result })
+}
+
+/// "Refusals: those of the line check, then 11 with the steps needed."
+fn path_shown(call: &Call, question: &Question) -> Result<Said, Refusal> {
+    let list = checked_list(call, question)?;
+    let Some(steps) = question.path(&list) else {
+        return Ok(Said { case: 2, values: Vec::new(), result: Vec::new() });
+    };
+    nodes_written(call, &steps)
 }
 
 /// The first line's place in its node's list; of the view, its place in the area.

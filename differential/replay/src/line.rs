@@ -19,6 +19,7 @@ pub fn kind(name: Name) -> usize {
         Name::LinesAtPort | Name::ViewLinesAtPort => 14,
         Name::LineIsConvex => 15,
         Name::TopoIsConvex => 16,
+        Name::ShowPath => unreachable!("a call of 02, of which there is no line"),
     }
 }
 
@@ -35,6 +36,7 @@ pub fn question(call: &Call) -> Line {
         Name::TryExtendIntervals => [vec![call.many, call.index], records].concat(),
         Name::NodesInIntervals => [vec![call.many], records, buffer].concat(),
         Name::LinesAtPort | Name::ViewLinesAtPort => vec![call.index],
+        Name::ShowPath => unreachable!("a call of 02, of which there is no line"),
     };
     [vec![kind(call.name)], asked].concat()
 }

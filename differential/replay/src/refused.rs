@@ -38,7 +38,7 @@ pub fn questions(
     let asker = Asker { map: step_map, steps: &steps, tables: &tables };
     let mut found = BTreeMap::new();
     for _ in 0..DRAWS {
-        let call = asker.call(random, map, area);
+        let call = asker.call_among(Name::OF_01, random, map, area);
         if let Some(refused) = asked_once(call).and_then(refused) {
             found.entry((refused.line[0], refused.number)).or_insert(refused);
         }
@@ -119,7 +119,7 @@ fn every_question(map: &Rc<[u8]>, area: &Rc<[u8]>) -> Vec<Refused> {
             _ => call.list(vec![0, 0]).buffer(vec![9, 0, 8, 0, 7, 0, 6, 0]),
         }
     };
-    let names = Name::ALL.iter().map(|pair| pair.0);
+    let names = Name::ALL[..Name::OF_01].iter().map(|pair| pair.0);
     let asked = names.filter(|&name| !matches!(name, Name::Prepare | Name::ViewLinesAtPort));
     asked.map(|name| refused(call(name)).expect("a refusal")).collect()
 }

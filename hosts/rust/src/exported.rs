@@ -134,4 +134,17 @@ extern "C" {
         number: *mut u64,
         place: *mut u64,
     ) -> u64;
+    pub fn varddohas_show_path(
+        map: *const u8,
+        map_bytes: usize,
+        area: *mut u8,
+        area_bytes: usize,
+        list: *const u8,
+        list_bytes: usize,
+        buffer: *mut u8,
+        buffer_bytes: usize,
+        count: *mut u64,
+        number: *mut u64,
+        place: *mut u64,
+    ) -> u64;
 }

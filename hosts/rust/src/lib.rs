@@ -1,11 +1,12 @@
-//! Whether a group of steps may run as one block: safe calls over the exported functions of `libvarddohas.a`, which are proved to answer as document
-//! 01 says, on all input. The types say the cases; nothing panics.
+//! Whether a group of steps may run as one block, and if not, along which path it leaves itself: safe calls over the exported functions of
+//! `libvarddohas.a`, which are proved to answer as documents 01 and 02 say, on all input. The types say the cases; nothing panics.
 //!
 //! A map is its bytes. An area is lent words: [`prepare`] lays a map's tables into it, and every other call tests them anew. A call that is refused says
 //! why ([`Refusal`]).
 //!
 //! ```
 //! use varddohas::line_convex_checker::{is_node_convex, Checked};
+//! use varddohas::path::{show_path, Shown};
 //! use varddohas::{area_words, prepare, Refusal};
 //!
 //! // three steps, each feeding the next: inputs and outputs of each, then the links (from step, output, to step, input)
@@ -20,6 +21,9 @@
 //! assert_eq!(prepare(&map, &mut area)?, 1);
 //! // step 1 is left out, and stands between the two
 //! assert_eq!(is_node_convex(&map, &mut area, &[0, 2])?, Checked::No { count: 0 });
+//! let mut path = [0; 3];
+//! assert_eq!(show_path(&map, &mut area, &[0, 2], &mut path)?, Shown::Path(3));
+//! assert_eq!(path, [0, 1, 2]);
 //! assert_eq!(is_node_convex(&map, &mut area, &[0, 1, 2])?, Checked::Yes { count: 0 });
 //! assert_eq!(is_node_convex(&map, &mut area, &[0, 3]), Err(Refusal::UnknownNode { entry: 1 }));
 //! # Ok::<(), Refusal>(())
@@ -36,6 +40,7 @@ compile_error!("libvarddohas.a is built for x86-64");
 mod exported;
 mod lent;
 pub mod line_convex_checker;
+pub mod path;
 mod refusal;
 pub mod stack;
 pub mod topo_convex_checker;

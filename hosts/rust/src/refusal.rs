@@ -46,7 +46,7 @@ pub enum Refusal {
     UnknownNode { entry: usize },
     /// 10: an entry of the list is equal to an earlier one.
     RepeatedNode { entry: usize },
-    /// 11: the result is longer than the lent room; the records or nodes that it needs room for.
+    /// 11: the result is longer than the lent room; the records, nodes or steps that it needs room for.
     TooLong { needed: usize },
     /// 12: a record stands outside the buffer, has an unknown line or one used before, or ends that are not on it or in the wrong order.
     BadRecord { record: usize },
@@ -129,7 +129,7 @@ impl fmt::Display for Refusal {
             Refusal::Empty => write!(out, "there is no node or record to check"),
             Refusal::UnknownNode { entry } => write!(out, "entry {entry} is no node of the map"),
             Refusal::RepeatedNode { entry } => write!(out, "entry {entry} is equal to an earlier one"),
-            Refusal::TooLong { needed } => write!(out, "the result needs room for {needed} records or nodes"),
+            Refusal::TooLong { needed } => write!(out, "the result needs room for {needed} records, nodes or steps"),
             Refusal::BadRecord { record } => write!(out, "record {record} is bad"),
             Refusal::Straddling { node } => write!(out, "node {node} is inside on one line and outside on another"),
             Refusal::UnknownPort { entry } => write!(out, "entry {entry} is no port of the map"),

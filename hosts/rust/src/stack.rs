@@ -45,3 +45,6 @@ pub const LINES_AT_PORT: usize = 135_168;
 
 /// [`line_convex_checker::view_lines_at_port`](crate::line_convex_checker::view_lines_at_port)
 pub const VIEW_LINES_AT_PORT: usize = 135_168;
+
+/// [`path::show_path`](crate::path::show_path)
+pub const SHOW_PATH: usize = 155_648;

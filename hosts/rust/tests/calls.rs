@@ -1,6 +1,7 @@
-//! Every call through the safe crate: P1 to P12 of document 01 as far as a call answers them, refusals, and words that must stand.
+//! Every call through the safe crate: P1 to P12 of document 01 as far as a call answers them, paths, refusals, and words that must stand.
 
 use varddohas::line_convex_checker::{self as line, Checked, Extended, Intervals, PortLines};
+use varddohas::path::{show_path, Shown};
 use varddohas::topo_convex_checker::{self as topo, Ordered};
 use varddohas::{area_words, prepare, Refusal, LARGEST_AREA};
 
@@ -78,6 +79,36 @@ fn map_c_with_ports() {
 }
 
 #[test]
+fn the_path_of_a_no() {
+    let (map, mut area) = prepared(A, 2);
+    let before = area.clone();
+    let mut steps = [9; 4];
+    assert_eq!(show_path(&map, &mut area, &[0, 3], &mut steps), Ok(Shown::Path(3)));
+    assert_eq!(steps, [0, 1, 3, 9]);
+    assert_eq!(show_path(&map, &mut area, &[0, 1, 3], &mut steps), Ok(Shown::Path(3)));
+    assert_eq!(steps, [0, 2, 3, 9]);
+    assert_eq!(show_path(&map, &mut area, &[1, 2], &mut []), Ok(Shown::NoPath));
+    assert_eq!(show_path(&map, &mut area, &[0, 1, 2, 3], &mut steps), Ok(Shown::NoPath));
+    assert_eq!(show_path(&map, &mut area, &[0, 3], &mut steps[..2]), Err(Refusal::TooLong { needed: 3 }));
+    assert_eq!(show_path(&map, &mut area, &[], &mut steps), Err(Refusal::Empty));
+    assert_eq!(show_path(&map, &mut area, &[0, 4], &mut steps), Err(Refusal::UnknownNode { entry: 1 }));
+    assert_eq!(show_path(&map, &mut area, &[0, 3, 0], &mut steps), Err(Refusal::RepeatedNode { entry: 2 }));
+    assert_eq!((steps, area), ([0, 2, 3, 9], before));
+}
+
+/// 512 steps in a row, and the list of the first and the last: each step is on the path.
+#[test]
+fn the_longest_path() {
+    let links: Vec<[u16; 4]> = (1..512).map(|step| [step - 1, 0, step, 0]).collect();
+    let (map, mut area) = prepared((&[[1, 1]; 512], &links), 1);
+    let mut steps = [9; 513];
+    assert_eq!(show_path(&map, &mut area, &[511, 0], &mut steps[..511]), Err(Refusal::TooLong { needed: 512 }));
+    assert_eq!(steps, [9; 513]);
+    assert_eq!(show_path(&map, &mut area, &[511, 0], &mut steps), Ok(Shown::Path(512)));
+    assert!((0..512).eq(steps[..512].iter().copied()) && steps[512] == 9);
+}
+
+#[test]
 fn refusals_of_maps() {
     let (map, area) = prepared(B, 3);
     let (nodes, mut links) = (B.0, B.1.to_vec());
@@ -143,6 +174,7 @@ fn stack_figures_are_those_of_the_header() {
         ("_NODES_IN_INTERVALS", NODES_IN_INTERVALS),
         ("_LINES_AT_PORT", LINES_AT_PORT),
         ("_VIEW_LINES_AT_PORT", VIEW_LINES_AT_PORT),
+        ("_SHOW_PATH", SHOW_PATH),
     ];
     for (name, figure) in figures {
         assert_eq!(promised(name), Some(figure), "{name}");

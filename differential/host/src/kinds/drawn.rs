@@ -2,7 +2,7 @@
 
 use crate::bench::{Bench, Compared};
 use crate::lists;
-use crate::subject::Subject;
+use crate::subject::{about, Subject};
 use oracle::drawing;
 use oracle::random::Random;
 use oracle::step_map::StepMap;
@@ -51,7 +51,7 @@ fn ask(bench: &mut Bench, random: &mut Random, map: &StepMap, amount: Amount) ->
     Ok(())
 }
 
-/// Lists with and without ports, each extended by a few nodes; and lists for the order check alone.
+/// Lists with and without ports, each with its path and extended by a few nodes; and lists for the order check alone.
 fn ask_lists(bench: &mut Bench, random: &mut Random, subject: &Subject, count: usize) -> Compared<()> {
     let map = subject.step_map();
     let order = subject.order();
@@ -60,6 +60,7 @@ fn ask_lists(bench: &mut Bench, random: &mut Random, subject: &Subject, count: u
         let mut others = random.permutation(order.len());
         others.truncate(3);
         subject.list_and_records(bench, &list, &others)?;
+        subject.path(bench, &list, about)?;
         let [inputs, outputs] = drawing::ports(random, map);
         subject.with_ports(bench, &list, [&inputs, &outputs])?;
         let list = drawing::loose_list(random, map);

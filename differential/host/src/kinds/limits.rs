@@ -4,7 +4,7 @@ use super::tables::Drawn;
 use crate::bench::{Bench, Compared};
 use crate::call::{junk, number_bytes, Call, Name};
 use crate::lists;
-use crate::subject::{area_words, Subject};
+use crate::subject::{about, area_words, up_to, Subject};
 use oracle::drawing;
 use oracle::map_bytes;
 use oracle::random::Random;
@@ -19,6 +19,7 @@ pub fn all(bench: &mut Bench, random: &mut Random) -> Compared<()> {
     for (nodes, links) in at_the_limits() {
         ask(bench, random, &StepMap::new(nodes, links))?;
     }
+    longest_path(bench)?;
     for _ in 0..3 {
         let largest = drawing::largest(random);
         ask(bench, random, &largest)?;
@@ -50,8 +51,13 @@ fn port_with_links(count: usize) -> Map {
     (all, (0..count).map(|k| Link { from: 0, output: 0, to: 1 + k / 255, input: k % 255 }).collect())
 }
 
+/// All nodes in a row, the last one first.
+fn chain() -> Map {
+    let links = (1..512).rev().map(|node| Link { from: node, output: 0, to: node - 1, input: 0 });
+    (nodes(512, 1, 1), links.collect())
+}
+
 fn at_the_limits() -> Vec<Map> {
-    let chain = (1..512).rev().map(|node| Link { from: node, output: 0, to: node - 1, input: 0 }).collect();
     let crossed = |k: usize| {
         [Link { from: 1, output: k, to: 2, input: 254 - k }, Link { from: 0, output: k, to: 1, input: 7 * k % 255 }]
     };
@@ -59,7 +65,7 @@ fn at_the_limits() -> Vec<Map> {
     vec![
         (nodes(512, 0, 0), Vec::new()),
         (nodes(512, 4, 4), Vec::new()),
-        (nodes(512, 1, 1), chain),
+        chain(),
         (three, (0..255).flat_map(crossed).collect()),
         ([nodes(8, 255, 255), nodes(1, 16, 0)].concat(), Vec::new()),
         port_with_links(2048),
@@ -88,6 +94,7 @@ fn ask(bench: &mut Bench, random: &mut Random, map: &StepMap) -> Compared<()> {
         let list = lists::draw(random, map, &order);
         let others = [0; 3].map(|_| random.below(order.len()));
         subject.list_and_records(bench, &list, &others)?;
+        subject.path(bench, &list, about)?;
         let [inputs, outputs] = drawing::ports(random, map);
         subject.with_ports(bench, &list, [&inputs, &outputs])?;
     }
@@ -96,6 +103,14 @@ fn ask(bench: &mut Bench, random: &mut Random, map: &StepMap) -> Compared<()> {
         subject.port(bench, random.below(ports))?;
     }
     Ok(())
+}
+
+/// The two ends of the chain: the path has every node of the map.
+fn longest_path(bench: &mut Bench) -> Compared<()> {
+    let (nodes, links) = chain();
+    let map = StepMap::new(nodes, links);
+    let subject = Subject::prepare(bench, &map, 1)?.expect("no cycle");
+    subject.path(bench, &[0, 511], up_to)
 }
 
 /// W is 31,751 words: one word less, as many, and more.
@@ -140,7 +155,7 @@ fn long_lists(bench: &mut Bench, random: &mut Random, drawn: &Drawn) -> Compared
     };
     let (count, ports) = (drawn.steps.nodes.len(), drawn.steps.port_count());
     for last in [0, count] {
-        for name in [Name::LineIsNodeConvex, Name::TopoIsNodeConvex, Name::GetIntervalsFromNodes] {
+        for name in [Name::LineIsNodeConvex, Name::TopoIsNodeConvex, Name::GetIntervalsFromNodes, Name::ShowPath] {
             bench.ask(&Call::new(name, &drawn.map, &area).list(list(count, last)))?;
         }
     }
@@ -167,6 +182,10 @@ fn long_buffers(bench: &mut Bench, random: &mut Random, drawn: &Drawn) -> Compar
         bench.ask(&call(Name::NodesInIntervals).buffer(room.clone()))?;
     }
     let list = number_bytes(&[drawn.tables.order[0]]);
-    bench.ask(&Call::new(Name::GetIntervalsFromNodes, &drawn.map, &area).list(list).buffer(room))?;
+    bench.ask(&Call::new(Name::GetIntervalsFromNodes, &drawn.map, &area).list(list).buffer(room.clone()))?;
+    for _ in 0..8 {
+        let list = number_bytes(&lists::draw(random, &drawn.step_map, &drawn.tables.order));
+        bench.ask(&Call::new(Name::ShowPath, &drawn.map, &area).list(list).buffer(room.clone()))?;
+    }
     Ok(())
 }

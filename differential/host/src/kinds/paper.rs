@@ -1,4 +1,4 @@
-//! 01's cases P1 to P12 and the checks of its listing, with the outcomes that 01 writes down.
+//! 01's cases P1 to P12 and the checks of its listing, with the outcomes that 01 writes down; and paths by the rule of 02, No. 1, worked out by hand.
 
 use crate::bench::{Bench, Compared};
 use crate::written::{map, refuse, Prepared, Tables};
@@ -13,7 +13,9 @@ pub fn all(bench: &mut Bench) -> Compared<()> {
     map_c(bench)?;
     refuse(bench, &map(&[(1, 1), (1, 1)], &[[0, 0, 1, 0], [1, 0, 0, 0]]), 6, 0)?; // P11
     Prepared::new(bench, map(&[], &[]), 0, Tables::default())?; // P12
-    Ok(())
+    bench.kind("paths worked out by hand");
+    paths_that_part(bench)?;
+    shorter_and_second(bench)
 }
 
 /// P1 to P4.
@@ -25,7 +27,10 @@ fn map_a(bench: &mut Bench) -> Compared<()> {
     a.line(bench, &[0, 3], NO, 0)?;
     a.line(bench, &[1, 2], YES, 0)?;
     a.line(bench, &[0, 1, 3], NO, 0)?;
-    a.port(bench, 7, 1, &[1])
+    a.port(bench, 7, 1, &[1])?;
+    a.path(bench, &[0, 3], 3, &[0, 1, 3])?;
+    a.path(bench, &[0, 1, 3], 4, &[0, 2, 3])?;
+    a.path(bench, &[1, 2], 0, &[])
 }
 
 /// P5 to P8, and the four lines of the listing.
@@ -43,7 +48,13 @@ fn map_b(bench: &mut Bench) -> Compared<()> {
     for (list, case) in [(&[0, 3][..], NO), (&[0, 6], YES), (&[], YES), (&[3, 3], YES)] {
         b.order(bench, list, case)?;
     }
-    Ok(())
+    b.path(bench, &[0, 3], 3, &[0, 1, 3])?;
+    b.path(bench, &[0, 1, 3], 0, &[])?;
+    b.path(bench, &[0, 6], 1, &[])?;
+    b.path_refused(bench, &[0, 3], 2, [11, 3])?;
+    b.path_refused(bench, &[], 3, [8, 0])?;
+    b.path_refused(bench, &[0, 7], 3, [9, 1])?;
+    b.path_refused(bench, &[0, 3, 0], 3, [10, 2])
 }
 
 /// P9 and P10.
@@ -52,4 +63,28 @@ fn map_c(bench: &mut Bench) -> Compared<()> {
     let c = Prepared::new(bench, bytes, 2, Tables { lines: &[&[0, 2], &[0, 1]], ..Tables::default() })?;
     c.with_ports(bench, &[0, 2], [2, 0], YES)?;
     c.with_ports(bench, &[0, 2], [1, 0], NO)
+}
+
+/// Two shortest paths that part at the end, at the start, and between.
+fn paths_that_part(bench: &mut Bench) -> Compared<()> {
+    // 0 2 3 and 0 1 4
+    let links = [[0, 0, 1, 0], [0, 1, 2, 0], [1, 0, 4, 0], [2, 0, 3, 0]];
+    let bytes = map(&[(0, 2), (1, 1), (1, 1), (1, 0), (1, 0)], &links);
+    Prepared::new(bench, bytes, 2, Tables::default())?.path(bench, &[4, 3, 0], 4, &[0, 2, 3])?;
+    // 0 2 3 and 1 2 3
+    let bytes = map(&[(0, 1), (0, 1), (2, 1), (1, 0)], &[[1, 0, 2, 1], [0, 0, 2, 0], [2, 0, 3, 0]]);
+    Prepared::new(bench, bytes, 2, Tables::default())?.path(bench, &[3, 1, 0], 3, &[0, 2, 3])?;
+    // 0 1 4 5 and 0 2 3 5
+    let links = [[0, 0, 1, 0], [1, 0, 4, 0], [4, 0, 5, 0], [0, 0, 2, 0], [2, 0, 3, 0], [3, 0, 5, 1]];
+    let bytes = map(&[(0, 1), (1, 1), (1, 1), (1, 1), (1, 1), (2, 0)], &links);
+    Prepared::new(bench, bytes, 2, Tables::default())?.path(bench, &[0, 5], 4, &[0, 2, 3, 5])
+}
+
+/// A shorter path behind a longer one, and a path along a fan-out's second link.
+fn shorter_and_second(bench: &mut Bench) -> Compared<()> {
+    let links = [[0, 0, 1, 0], [1, 0, 2, 0], [2, 0, 3, 0], [3, 0, 4, 0], [4, 0, 5, 0]];
+    let bytes = map(&[(0, 1), (1, 1), (1, 1), (1, 1), (1, 1), (1, 0)], &links);
+    Prepared::new(bench, bytes, 1, Tables::default())?.path(bench, &[0, 3, 5], 3, &[3, 4, 5])?;
+    let bytes = map(&[(0, 1), (1, 0), (1, 1), (1, 0)], &[[0, 0, 1, 0], [0, 0, 2, 0], [2, 0, 3, 0]]);
+    Prepared::new(bench, bytes, 2, Tables::default())?.path(bench, &[0, 3], 3, &[0, 2, 3])
 }

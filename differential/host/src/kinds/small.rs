@@ -2,7 +2,7 @@
 
 use crate::bench::{Bench, Compared};
 use crate::call::{number_bytes, Call, Name};
-use crate::subject::Subject;
+use crate::subject::{about, up_to, Subject};
 use oracle::step_map::{Link, Node, StepMap};
 
 /// Nodes in a small map, at most: its lists are all asked.
@@ -151,16 +151,23 @@ fn ask_all(bench: &mut Bench, subject: &Subject) -> Compared<()> {
     for list in all_lists(count, count) {
         let is_set = (0..list.len()).all(|at| !list[..at].contains(&list[at]));
         if is_set && !list.is_empty() {
-            // records are the same for every order of a list, but for their own order
+            // records are the same for every order of a list, but for their own order, and the path is the same
             match list.windows(2).all(|pair| pair[0] < pair[1]) {
-                true => subject.list_and_records(bench, &list, &nodes)?,
-                false => drop(subject.list(bench, &list)?),
+                true => {
+                    subject.list_and_records(bench, &list, &nodes)?;
+                    subject.path(bench, &list, up_to)?;
+                }
+                false => {
+                    subject.list(bench, &list)?;
+                    subject.path(bench, &list, about)?;
+                }
             }
         } else if list.len() <= 2 {
             subject.loose_list(bench, &list)?;
             let call = |name| Call::new(name, &subject.map, &subject.area).list(number_bytes(&list));
             bench.ask(&call(Name::LineIsNodeConvex))?;
             bench.ask(&call(Name::GetIntervalsFromNodes))?;
+            bench.ask(&call(Name::ShowPath))?;
         }
     }
     let ports: usize = subject.step_map().nodes().iter().map(|node| node.inputs + node.outputs).sum();

@@ -7,7 +7,7 @@ mod rows;
 use oracle::drawing;
 use oracle::map_bytes;
 use oracle::random::Random;
-use oracle::step_map::StepMap;
+use oracle::step_map::{Link, Node, StepMap};
 use rows::Rows;
 
 /// Nodes of the measured maps; each has 4 links and 8 ports for each node, the largest proportions of document 01.
@@ -24,13 +24,20 @@ fn main() {
         "seed {seed}; microseconds, the middle of the measurements; {LISTS} lists a map, a quarter of its nodes each"
     );
     let measured: Vec<Rows> = SIZES.map(|nodes| measure(&mut random, nodes)).into();
-    rows::print(&measured);
+    rows::print(&measured, &measure_chain());
 }
 
 fn measure(random: &mut Random, nodes: usize) -> Rows {
     let map = drawing::of_size(random, nodes, 4 * nodes, 8 * nodes);
     let lists = lists(random, &map);
     Rows::measure(&map, &map_bytes::write(map.nodes(), map.links()), &lists)
+}
+
+/// The longest path there is: all nodes in a row, and the list of both ends.
+fn measure_chain() -> Rows {
+    let links = (1..512).map(|node| Link { from: node - 1, output: 0, to: node, input: 0 }).collect();
+    let map = StepMap::new(vec![Node { inputs: 1, outputs: 1 }; 512], links);
+    Rows::measure(&map, &map_bytes::write(map.nodes(), map.links()), &[vec![0, 511]])
 }
 
 /// Parts of the order, most of which are convex, and lists drawn at random, most of which are not: as many of each.

@@ -18,6 +18,8 @@ extern "C" {
         count: Value, number: Value, place: Value) -> u64;
     fn varddohas_topo_is_node_convex(map: Bytes, m: usize, area: MutBytes, a: usize, list: Bytes, l: usize,
         number: Value, place: Value) -> u64;
+    fn varddohas_show_path(map: Bytes, m: usize, area: MutBytes, a: usize, list: Bytes, l: usize,
+        buffer: MutBytes, b: usize, count: Value, number: Value, place: Value) -> u64;
 }
 
 /// How often something is measured; the middle one counts.
@@ -33,12 +35,17 @@ pub struct Rows {
     /// The order checker, likewise.
     order: [f64; 3],
     preparing: f64,
+    path: f64,
+    /// How many of the lists have a path, and the steps of the longest one.
+    paths: usize,
+    longest: u64,
 }
 
-/// Our side of a map: its bytes and an area of W words, as bytes.
+/// Our side of a map: its bytes, an area of W words and a buffer of N, as bytes.
 struct Ours<'a> {
     map: &'a [u8],
     area: Vec<u8>,
+    buffer: Vec<u8>,
 }
 
 impl Ours<'_> {
@@ -73,20 +80,39 @@ impl Ours<'_> {
             varddohas_topo_is_node_convex(self.map.as_ptr(), self.map.len(), area, a, list, l, number, place)
         }
     }
+
+    /// The case, and how many steps the path has.
+    fn path(&mut self, list: &[u8]) -> (u64, u64) {
+        let mut values = [0; 3];
+        let [count, number, place] = values.each_mut();
+        // SAFETY: as above.
+        let case = unsafe {
+            let (area, a) = (self.area.as_mut_ptr(), self.area.len());
+            let (list, l) = (list.as_ptr(), list.len());
+            let (buffer, b) = (self.buffer.as_mut_ptr(), self.buffer.len());
+            varddohas_show_path(self.map.as_ptr(), self.map.len(), area, a, list, l, buffer, b, count, number, place)
+        };
+        (case, values[0])
+    }
 }
 
 impl Rows {
     pub fn measure(map: &StepMap, bytes: &[u8], lists: &[Vec<usize>]) -> Self {
         let (nodes, links) = (map.nodes().len(), map.links().len());
         let ports: usize = map.nodes().iter().map(|node| node.inputs + node.outputs).sum();
-        let mut ours = Ours { map: bytes, area: vec![0; 2 * (7 + 10 * nodes + 9 * links + 2 * ports)] };
+        let area = vec![0; 2 * (7 + 10 * nodes + 9 * links + 2 * ports)];
+        let mut ours = Ours { map: bytes, area, buffer: vec![0; 2 * nodes] };
         assert_eq!(ours.prepare(), 1, "preparing refuses the map");
         let (line, topo) = (LineConvexChecker::new(map), TopoConvexChecker::new(map));
         let as_bytes = |list: &Vec<usize>| list.iter().flat_map(|&node| (node as u16).to_le_bytes()).collect();
         let given: Vec<Vec<u8>> = lists.iter().map(as_bytes).collect();
+        let mut shown = Vec::new();
         for (list, bytes) in lists.iter().zip(&given) {
             assert_eq!(ours.line(bytes) == 1, line.is_node_convex(indices(list)), "the answers differ");
             assert_eq!(ours.order(bytes) == 1, topo.is_node_convex(indices(list)), "the answers differ");
+            let (case, steps) = ours.path(bytes);
+            assert_eq!(case == 2, line.is_node_convex(indices(list)), "the answers differ");
+            shown.extend((case == 1).then_some(steps));
         }
 
         let each = |call: &mut dyn FnMut(usize)| time(lists.len(), |turn| call(turn));
@@ -111,6 +137,11 @@ impl Rows {
                 }),
                 time(1, |_| drop(black_box(TopoConvexChecker::new(black_box(map))))),
             ],
+            path: each(&mut |turn| {
+                black_box(ours.path(&given[turn]));
+            }),
+            paths: shown.len(),
+            longest: shown.into_iter().max().unwrap_or(0),
             preparing: time(1, |_| {
                 black_box(ours.prepare());
             }),
@@ -155,7 +186,7 @@ const RATIOS: [(&str, Ratio); 5] = [
     ("preparing / `LineConvexChecker::new`", |row| (row.preparing, row.line[2])),
 ];
 
-pub fn print(measured: &[Rows]) {
+pub fn print(measured: &[Rows], chain: &Rows) {
     for (name, ratio) in RATIOS {
         println!("\n{name}");
         println!("{:>6} {:>10} {:>12} {:>8}", "N", "ours", "the Rust's", "ratio");
@@ -164,16 +195,23 @@ pub fn print(measured: &[Rows]) {
             println!("{:>6} {ours:>10.1} {theirs:>12.1} {:>8.3}", row.nodes, ours / theirs);
         }
     }
-    println!("\ngrowth: nanoseconds for each of N + L + P");
-    println!("{:>6} {:>10} {:>12} {:>12}", "N", "preparing", "line check", "order check");
-    for row in measured {
+    println!("\nthe path / our own line check, on the same lists; at the end a chain, and the list of its two ends");
+    println!("{:>6} {:>10} {:>12} {:>8} {:>8} {:>8}", "N", "path", "line check", "ratio", "paths", "longest");
+    for row in measured.iter().chain([chain]) {
+        let Rows { nodes, path, line: [line, ..], paths, longest, .. } = row;
+        println!("{nodes:>6} {path:>10.1} {line:>12.1} {:>8.3} {paths:>8} {longest:>8}", path / line);
+    }
+    println!("\ngrowth: nanoseconds for each of N + L + P; at the end the chain");
+    println!("{:>6} {:>10} {:>12} {:>12} {:>10}", "N", "preparing", "line check", "order check", "path");
+    for row in measured.iter().chain([chain]) {
         let each = |time: f64| 1000.0 * time / row.size as f64;
         println!(
-            "{:>6} {:>10.1} {:>12.1} {:>12.1}",
+            "{:>6} {:>10.1} {:>12.1} {:>12.1} {:>10.1}",
             row.nodes,
             each(row.preparing),
             each(row.line[0]),
-            each(row.order[0])
+            each(row.order[0]),
+            each(row.path)
         );
     }
 }
