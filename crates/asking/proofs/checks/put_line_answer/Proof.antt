@@ -1,4 +1,4 @@
--- `asking::replies::put_line_answer` meets its contract: each answer is shown as paper shows what it says.
+-- `asking::checks::put_line_answer` meets its contract: each answer is shown as paper shows what it says.
 -- Rests on Texts.
 use mathlib.Core.Path.{sym, ap, ap₂, _∙_}
 use Rattle.paper.specs.Text.{showRefused, showLine}
@@ -6,8 +6,8 @@ use Rattle.line_checker.specs.declared.line_check.LineAnswer.{LineAnswer}
 use Rattle.line_checker.specs.Said.{lineSaid}
 use Rattle.asking.proofs.Texts.{put-as}
 use borrow.Author.Needs.{needs}
-use Rattle.asking.proofs.replies.put_line_answer.Statement.{statement}
-use Rattle.asking.proofs.replies.put_line_answer.Tie as tie
+use Rattle.asking.proofs.checks.put_line_answer.Statement.{statement}
+use Rattle.asking.proofs.checks.put_line_answer.Tie as tie
 
 enum-known-answer : tie.Need-enum-known-answer
 enum-known-answer c = search needs

@@ -1,10 +1,10 @@
--- `ask_cases::run_lines` is safe and ends. The loop: the place is within the list, and every line moves it on.
+-- `program_cases::run_lines` is safe and ends. The loop: the place is within the list, and every line moves it on.
 -- Assumes nothing.
 use borrow.Author.Needs.{needs}
 use Prim.Native.Nat.{_≤_, _-_}
 use lib.ListN.{length}
-use Rattle.ask_cases.proofs.run_lines.Statement.{statement}
-use Rattle.ask_cases.proofs.run_lines.Tie as tie
+use Rattle.program_cases.proofs.run_lines.Statement.{statement}
+use Rattle.program_cases.proofs.run_lines.Tie as tie
 
 abbrev Inv-loop : tie.InvT-loop
 Inv-loop list at₀ at = at ≤ length list

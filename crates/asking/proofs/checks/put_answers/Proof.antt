@@ -1,13 +1,12 @@
--- `asking::replies::put_answers` meets its contract: five texts one after the other; there is room for each.
+-- `asking::checks::put_answers` meets its contract: four texts one after the other; there is room for each.
 -- Rests on text's Printed.
 use native.Mathlib.Omega.{arith}
-use Rattle.text.proofs.Printed.{put-then, line-short, order-short}
+use Rattle.text.proofs.Printed.{put-then, line-short}
 use Rattle.line_checker.specs.Said.{lineSaid}
-use Rattle.topo_checker.specs.Said.{topoSaid}
 use Rattle.asking.specs.Printed.{bothChecks}
 use borrow.Author.Needs.{needs}
-use Rattle.asking.proofs.replies.put_answers.Statement.{statement}
-use Rattle.asking.proofs.replies.put_answers.Tie as tie
+use Rattle.asking.proofs.checks.put_answers.Statement.{statement}
+use Rattle.asking.proofs.checks.put_answers.Tie as tie
 
 slice-aggregate-put-text : tie.Need-slice-aggregate-put-text
 slice-aggregate-put-text c = search needs
@@ -27,27 +26,18 @@ put-text-requires-2 c κs = omega (arith, line-short (lineSaid (c .before .befor
 put-order-answer-requires : tie.Need-put-order-answer-requires
 put-order-answer-requires c κs = omega (arith, line-short (lineSaid (c .before .before .before .before .before .before .before .before .before .before .before .before .before .before .before .before .args .line)))
 
-slice-aggregate-put-text-3 : tie.Need-slice-aggregate-put-text-3
-slice-aggregate-put-text-3 c = search needs
-
-put-text-requires-3 : tie.Need-put-text-requires-3
-put-text-requires-3 c κs =
-    let given = c .before .before .before .before .before .before .before .before .before .before .before .before .before .before .before .before .before .before .before .before .before .args in
-    omega (arith, line-short (lineSaid (given .line)), order-short (topoSaid (given .order)))
-
 same-length : tie.Need-same-length
 same-length c = search needs
 
 returns : tie.Need-returns
 unfolding bothChecks
 returns c =
-    let fifth = c .before .before in
-    let fourth = fifth .before .before .before .before .before in
+    let fourth = c .before .before in
     let third = fourth .before .before .before .before in
     let second = third .before .before .before .before .before in
     let first = second .before .before .before .before in
-    put-then (put-then (put-then (put-then (first .put-text .ensures) (second .put-line-answer .ensures)) (third .put-text2 .ensures)) (fourth .put-order-answer .ensures))
-    (fifth .put-text3 .ensures)
+    put-then (put-then (put-then (first .put-text .ensures) (second .put-line-answer .ensures)) (third .put-text2 .ensures))
+    (fourth .put-order-answer .ensures)
 
 pub put-answers-spec : {M : Type 1} → statement M
 put-answers-spec =
@@ -59,7 +49,5 @@ put-answers-spec =
     slice-aggregate-put-text-2
     put-text-requires-2
     put-order-answer-requires
-    slice-aggregate-put-text-3
-    put-text-requires-3
     same-length
     returns)

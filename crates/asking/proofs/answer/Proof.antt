@@ -1,10 +1,11 @@
--- `asking::ask` is safe and ends: what is written stands within the lent bytes, and the lists are asked in the area that `begin` left.
+-- `asking::answer` is safe and ends: what is written stands within the lent bytes, and the lists are asked in the area that `begin` left.
 -- Rests on Starts.
 use native.Mathlib.Omega.{arith}
+use Rattle.paper.specs.Text.{whySays}
 use Rattle.asking.proofs.Starts.{begun-whole, begun-first}
 use borrow.Author.Needs.{needs}
-use Rattle.asking.proofs.ask.Statement.{statement}
-use Rattle.asking.proofs.ask.Tie as tie
+use Rattle.asking.proofs.answer.Statement.{statement}
+use Rattle.asking.proofs.answer.Tie as tie
 
 area-room-requires : tie.Need-area-room-requires
 area-room-requires c κs = search needs
@@ -33,7 +34,7 @@ part-write-all-start c = search needs
 part-write-all-end : tie.Need-part-write-all-end
 part-write-all-end c =
     let told = c .before .before in
-    omega (arith, begun-whole (told .before .before .before .before .begin .ensures) (told .begun .given .1) .within)
+    omega (arith, begun-whole (told .before .before .before .before .begin .ensures) (told .begun .given .1) whySays .within)
 
 write-all-requires : tie.Need-write-all-requires
 write-all-requires c κs = search needs
@@ -58,17 +59,17 @@ write-all-requires-2 c κs = search needs
 list-room-requires : tie.Need-list-room-requires
 list-room-requires c κs = search needs
 
-slice-aggregate-ask-lists : tie.Need-slice-aggregate-ask-lists
-slice-aggregate-ask-lists c = search needs
+slice-aggregate-answer-lists : tie.Need-slice-aggregate-answer-lists
+slice-aggregate-answer-lists c = search needs
 
-slice-aggregate-ask-lists-2 : tie.Need-slice-aggregate-ask-lists-2
-slice-aggregate-ask-lists-2 c = search needs
+slice-aggregate-answer-lists-2 : tie.Need-slice-aggregate-answer-lists-2
+slice-aggregate-answer-lists-2 c = search needs
 
-slice-aggregate-ask-lists-3 : tie.Need-slice-aggregate-ask-lists-3
-slice-aggregate-ask-lists-3 c = search needs
+slice-aggregate-answer-lists-3 : tie.Need-slice-aggregate-answer-lists-3
+slice-aggregate-answer-lists-3 c = search needs
 
-ask-lists-requires : tie.Need-ask-lists-requires
-ask-lists-requires c κs =
+answer-lists-requires : tie.Need-answer-lists-requires
+answer-lists-requires c κs =
     let told = c .before .before .before .before .before .before .before .before in
     let opened = begun-first (told .before .before .before .before .begin .ensures) (told .begun2 .given .1) in
     (opened .standing, (opened .short, (search needs, search needs)))
@@ -79,8 +80,8 @@ returns c = search needs
 returns-2 : tie.Need-returns-2
 returns-2 c = search needs
 
-pub ask-spec : {M : Type 1} → statement M
-ask-spec =
+pub answer-spec : {M : Type 1} → statement M
+answer-spec =
     tie.close
     (tie.spec
     area-room-requires
@@ -99,9 +100,9 @@ ask-spec =
     part-write-all-end-2
     write-all-requires-2
     list-room-requires
-    slice-aggregate-ask-lists
-    slice-aggregate-ask-lists-2
-    slice-aggregate-ask-lists-3
-    ask-lists-requires
+    slice-aggregate-answer-lists
+    slice-aggregate-answer-lists-2
+    slice-aggregate-answer-lists-3
+    answer-lists-requires
     returns
     returns-2)

@@ -1,4 +1,4 @@
--- `asking::replies::put_order_answer` meets its contract: each answer is shown as paper shows what it says.
+-- `asking::checks::put_order_answer` meets its contract: each answer is shown as paper shows what it says.
 -- Rests on Texts.
 use mathlib.Core.Path.{sym, ap, ap₂, _∙_}
 use Rattle.paper.specs.Text.{showRefused, showOrder}
@@ -6,8 +6,8 @@ use Rattle.topo_checker.specs.declared.TopoAnswer.{TopoAnswer}
 use Rattle.topo_checker.specs.Said.{topoSaid}
 use Rattle.asking.proofs.Texts.{put-as}
 use borrow.Author.Needs.{needs}
-use Rattle.asking.proofs.replies.put_order_answer.Statement.{statement}
-use Rattle.asking.proofs.replies.put_order_answer.Tie as tie
+use Rattle.asking.proofs.checks.put_order_answer.Statement.{statement}
+use Rattle.asking.proofs.checks.put_order_answer.Tie as tie
 
 enum-told : tie.Need-enum-told
 enum-told c = search needs

@@ -9,11 +9,13 @@ use lib.ListN.{length, getD, take, drop, length-drop}
 use lib.Seq.{drop-cons}
 use Rattle.lists.specs.Lists.{from, upto}
 use Rattle.paper.specs.Lines.{tables}
-use Rattle.paper.specs.Text.{newline, linesIn, readList, askList, askLists, firstOutput, ask}
+use Rattle.paper.specs.Text.{newline, linesIn, readList, sayLine, sayLines, firstOutput, output, ask, why}
 use Rattle.text.specs.Parts.{partEnd}
 use Rattle.text.proofs.Split.{part-starts}
 use Rattle.text.proofs.Lines.{no-line, lines-from}
 use Rattle.asking.specs.Standing.{preparedArea, Standing}
+use Rattle.asking.specs.declared.Program.the-variants.{Ask, Why}
+use Rattle.asking.specs.Says.{Says, saysOf}
 use Rattle.asking.specs.Printed.{Printed}
 use Rattle.asking.specs.Begun.{Opened}
 use Rattle.asking.specs.Turns.{StartsLine, Turned}
@@ -49,10 +51,10 @@ module _ (input : List ℕ) (at i : ℕ) (starts : StartsLine input at i) where
     next-starts : StartsLine input (partEnd newline input at + 1) (suc i)
     next-starts = rest-there {A = List ℕ} [] (linesIn input) i lines-left
 
-    pub turned : {b area before after : List ℕ} {end put : ℕ} → end ≡ partEnd newline input at
-        → Printed b area (askList b (preparedArea b) i (readList (take (end - at) (drop at input)))) before after put
-        → Turned b input at i area before after (record { printed = put; next = end + 1 })
-    turned e printed =
+    pub turned : (says : Says) {b area before after : List ℕ} {end put : ℕ} → end ≡ partEnd newline input at
+        → Printed b area (sayLine says b (preparedArea b) i (readList (take (end - at) (drop at input)))) before after put
+        → Turned says b input at i area before after (record { printed = put; next = end + 1 })
+    turned says e printed =
         record {
           isLine = is-line;
           printed = rw (line-is, ← e) printed;
@@ -77,7 +79,7 @@ pub turn-first : {b input area : List ℕ} → Standing b area → SoFar b input
 turn-first standing = record { standing = standing; starts = refl; asked = omega arith; slow = omega arith }
 
 module _ {b input area : List ℕ} {at i : ℕ} where
-  pub turn-more : {m before after : List ℕ} {turn : Turn} → SoFar b input area at i → Turned b input at i m before after turn
+  pub turn-more : {says : Says} {m before after : List ℕ} {turn : Turn} → SoFar b input area at i → Turned says b input at i m before after turn
       → SoFar b input m (turn .next) (i + 1)
   turn-more far turned =
       record {
@@ -90,21 +92,31 @@ module _ {b input area : List ℕ} {at i : ℕ} where
   pub turns-done : SoFar b input area at i → length input ≤ at → i ≡ length (linesIn input)
   turns-done far h = omega (arith, far .asked, no-more input at i (far .starts) h)
 
--- the lines that the turns put, one after the other, are all that `ask` prints of the lists
-pub all-asked : (b a : List ℕ) (texts : List (List ℕ)) → askLists b a 0 texts ≡ flatMap (λ i. askList b a i (readList (getD texts i []))) (upto (length texts))
-unfolding askLists flatMap
-all-asked b a texts = go texts 0 refl
-  where
-    go : (left : List (List ℕ)) (i : ℕ) → left ≡ drop i texts
-        → askLists b a i left ≡ flatMap (λ i. askList b a i (readList (getD texts i []))) (from i (length left))
-    go [] i e = refl
-    go (t ∷ left) i e =
-        ap (λ (text : List ℕ). askList b a i (readList text) ++ askLists b a (suc i) left) (sym (first-there {A = List ℕ} [] texts i e))
-        ∙ ap (λ (rest : List ℕ). askList b a i (readList (getD texts i [])) ++ rest) (go left (suc i) (rest-there {A = List ℕ} [] texts i e))
+-- the lines that the turns put, one after the other, are all that is said of the lists
+module _ (says : Says) where
+  pub all-said : (b a : List ℕ) (texts : List (List ℕ)) → sayLines says b a 0 texts ≡ flatMap (λ i. sayLine says b a i (readList (getD texts i []))) (upto (length texts))
+  unfolding sayLines flatMap
+  all-said b a texts = go texts 0 refl
+    where
+      go : (left : List (List ℕ)) (i : ℕ) → left ≡ drop i texts
+          → sayLines says b a i left ≡ flatMap (λ i. sayLine says b a i (readList (getD texts i []))) (from i (length left))
+      go [] i e = refl
+      go (t ∷ left) i e =
+          ap (λ (text : List ℕ). sayLine says b a i (readList text) ++ sayLines says b a (suc i) left) (sym (first-there {A = List ℕ} [] texts i e))
+          ∙ ap (λ (rest : List ℕ). sayLine says b a i (readList (getD texts i [])) ++ rest) (go left (suc i) (rest-there {A = List ℕ} [] texts i e))
 
--- so that, after the first line, the output is what the turns put
-pub output : {b input before after area : List ℕ} {end : ℕ} → Opened b input before after area end
-    → ask b input ≡ firstOutput b (tables b .count)
-    ++ flatMap (λ i. askList b (preparedArea b) i (readList (getD (linesIn input) i []))) (upto (length (linesIn input)))
-output {b} {input} opened =
-    opened .rest ∙ ap (λ (lines : List ℕ). firstOutput b (tables b .count) ++ lines) (all-asked b (preparedArea b) (linesIn input))
+  -- so that, after the first line, the output is what the turns put
+  pub output-is : {b input before after area : List ℕ} {end : ℕ} → Opened b input before after area end
+      → output says b input ≡ firstOutput b (tables b .count)
+      ++ flatMap (λ i. sayLine says b (preparedArea b) i (readList (getD (linesIn input) i []))) (upto (length (linesIn input)))
+  output-is {b} {input} opened =
+      opened .rest says ∙ ap (λ (lines : List ℕ). firstOutput b (tables b .count) ++ lines) (all-said b (preparedArea b) (linesIn input))
+
+-- which is `ask` for what it says of a list, and `why` for what it says
+pub ask-is : ask ≡ output (saysOf Ask)
+unfolding ask saysOf
+ask-is = refl
+
+pub why-is : why ≡ output (saysOf Why)
+unfolding why saysOf
+why-is = refl
