@@ -1,7 +1,8 @@
 // The programs `ask` and `why`: each reads the step map `steps.pgt` and lists on standard input, and says of each list what it is asked for.
 // What is printed is proved of the functions on slices that put each line: `begin` puts the first line or the one line that is all, and turn i of
-// `next_list` the one for line i of the input; that these lines, in order, are paper's `ask` and `why` are the laws of that name (proofs/Lines). No
-// contract can say which bytes a program reads and writes: `run` reads both files once, and writes each line as it is made.
+// `next_list` the one for line i of the input; that these lines, in order, are all of paper's output is the law `output-is`, and that this is `ask` or
+// `why` say `ask-is` and `why-is` (proofs/Lines). No contract can say which bytes a program reads and writes: `run` reads both files once, and writes
+// each line as it is made.
 pub mod beginning;
 pub mod checks;
 pub mod replies;

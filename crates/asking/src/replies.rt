@@ -14,7 +14,7 @@ ghost use Rattle.asking.specs.Standing.{Standing, preparedArea};
 ghost use Rattle.asking.specs.Printed.{Printed};
 ghost use Rattle.asking.specs.Says.{saysOf};
 
-// Puts what the program says of a list.
+// Puts what the program says of a list, and leaves room for a newline.
 fn say(program: Program, map: &[u8], area: &mut [u16], list: &[u16], out: &mut [u8]) -> usize
     requires { ⌜ Standing (now map) (now area) ⌝ }
     requires { ⌜ 3200 ≤ length (now out) ⌝ }
