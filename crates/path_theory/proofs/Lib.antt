@@ -1,0 +1,2 @@
+pub mod NoPath
+pub mod Promise
