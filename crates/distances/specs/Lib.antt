@@ -1,3 +1,2 @@
 pub mod Met
-pub mod Reached
-pub mod Closed
+pub mod Smallest

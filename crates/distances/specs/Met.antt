@@ -9,7 +9,7 @@ use lib.Dec.{eqb}
 use Rattle.lists.specs.Lists.{one, member}
 use Rattle.lists.proofs.Sections.{part}
 use Rattle.walk_theory.specs.Joined.{Joined}
-use Rattle.walk_theory.specs.Marked.{join}
+use Rattle.walk_theory.specs.Marked.{joinAll}
 use Rattle.tables.specs.Within.{Within}
 
 -- node v is marked, with distance d
@@ -42,10 +42,10 @@ pub record ListMarked (a : List ℕ) (queue n count : ℕ) (m : List ℕ) : Type
   pub near : (u : ℕ) → u < n → getD m (queue + n + n + u) 0 ≡ 0
   pub kept : Within queue (metSize n) a m
 
--- node v joined at distance d, unless it was met before
-pub record Joins (a : List ℕ) (queue n joined v d grown : ℕ) (m : List ℕ) : Type 0 where
+-- some nodes joined at distance d, those that were not met before: from a to m, from `joined` to `grown`
+pub record Joins (a : List ℕ) (queue n joined : ℕ) (nodes : List ℕ) (d grown : ℕ) (m : List ℕ) : Type 0 where
   pub met : Met m queue n grown
-  pub whole : part m queue grown ≡ join (part a queue joined) v
+  pub whole : part m queue grown ≡ joinAll (part a queue joined) nodes
   pub told : (u e : ℕ) → u < n
-      → tells m queue n u e ≡ tells a queue n u e || (not (member v (part a queue joined)) && eqb u v && eqb d e)
+      → tells m queue n u e ≡ (tells a queue n u e || ((member u nodes && not (member u (part a queue joined))) && eqb d e))
   pub kept : Within queue (metSize n) a m

@@ -1,28 +1,22 @@
-// The first distance at which a step is linked to the list again, and the smallest listed step that it is linked to.
 use super::queue::at_distance;
-use super::rounds::round;
-use neighbours::Places;
-use neighbours::target;
-use neighbours::targets_start;
-use words::section::word_at;
-ghost use Rattle.lists.proofs.Sections.{part};
-ghost use Rattle.distances.specs.Reached.{Reached, Standing};
-ghost use Rattle.distances.specs.Closed.{Closed};
-
+ghost use mathlib.Core.Path.{_≡_};
+ghost use mathlib.Core.List.{[], _∷_, _++_};
+ghost use Prim.Native.Nat.{_+_, _<_, _≤_};
+ghost use lib.ListN.{length};
+ghost use Rattle.lists.specs.Lists.{keep};
+ghost use Rattle.lists.specs.Found.{listed};
+ghost use Rattle.distances.specs.Met.{metSize, tells};
+ghost use Rattle.distances.specs.Smallest.{smallest, smallestSaid};
 // The smallest of some nodes, or that there are none.
 pub enum Smallest {
     Absent,
     At(usize),
 }
 
-// Where the way back closes: at a distance, with the listed step that ends it; or that it never does.
-pub enum Closing {
-    Never,
-    At(usize, usize),
-}
-
-// The smallest of some nodes and v.
-fn smaller(found: Smallest, v: usize) -> Smallest {
+// The smaller of what was found and v.
+fn smaller(found: Smallest, v: usize) -> Smallest
+    ensures { λ r. ⌜ smallestSaid r ≡ smallest (listed (smallestSaid found) ++ (v ∷ [])) ⌝ }
+{
     let Smallest::At(u) = found else {
         return Smallest::At(v);
     };
@@ -32,74 +26,14 @@ fn smaller(found: Smallest, v: usize) -> Smallest {
     found
 }
 
-// The smallest of what was found and the listed steps that node v is linked to.
-fn smallest_target(
-    b: &[u8],
-    n: usize,
-    area: &[u16],
-    queue: usize,
-    at: Places,
-    v: usize,
-    found: Smallest,
-) -> Smallest {
-    let mut i = targets_start(b, n, area, at, v);
-    let end = targets_start(b, n, area, at, v + 1);
-    let mut best = found;
-    while i < end {
-        let w = target(b, n, area, at, i);
-        if at_distance(area, queue, n, w, 0) {
-            best = smaller(best, w);
-        }
-        i += 1;
-    }
-    best
-}
-
-// The smallest listed step that a node from place `from` up to place `to` is linked to.
-fn smallest_end(
-    b: &[u8],
-    n: usize,
-    area: &[u16],
-    queue: usize,
-    at: Places,
-    from: usize,
-    to: usize,
-) -> Smallest {
-    let mut best = Smallest::Absent;
-    let mut t = from;
-    while t < to {
-        let v = word_at(area, queue, t);
-        best = smallest_target(b, n, area, queue, at, v, best);
-        t += 1;
-    }
-    best
-}
-
-// Goes round by round until a step of the last one is linked to the list, or a round brings no step.
-pub fn close(
-    b: &[u8],
-    n: usize,
-    area: &mut [u16],
-    queue: usize,
-    at: Places,
-    count: usize,
-) -> Closing
-    requires { ⌜ Standing (now b) (now area) n queue at ⌝ }
-    requires { ⌜ Reached (now b) (part (now area) queue count) (now area) queue n 0 count 0 ⌝ }
-    ensures { λ r. ⌜ Closed (now (b .entry)) (now (area .entry)) queue n count r (now (area .exit)) ⌝ }
+// The smaller of what was found and v, if v is listed.
+fn smaller_listed(area: &[u16], queue: usize, n: usize, v: usize, found: Smallest) -> Smallest
+    requires { ⌜ queue + metSize n ≤ length (now area) ⌝ }
+    requires { ⌜ v < n ⌝ }
+    ensures { λ r. ⌜ smallestSaid r ≡ smallest (listed (smallestSaid found) ++ keep (λ u. tells (now (area .entry)) queue n u 0) (v ∷ [])) ⌝ }
 {
-    let mut d = 0;
-    let mut from = 0;
-    let mut to = count;
-    while from < to {
-        let grown = round(b, n, area, queue, at, from, to, d + 1);
-        from = to;
-        to = grown;
-        d += 1;
-        let end = smallest_end(b, n, area, queue, at, from, to);
-        if let Smallest::At(w) = end {
-            return Closing::At(d, w);
-        }
+    if at_distance(area, queue, n, v, 0) {
+        return smaller(found, v);
     }
-    Closing::Never
+    found
 }

@@ -1,0 +1,16 @@
+-- The smallest number of a list, or that it has none, in the case's own values.
+-- Rests on lists.
+use Prim.Native.Nat.{ℕ}
+use mathlib.Core.List.{List, [], _∷_}
+use Rattle.lists.specs.Lists.{least}
+use Rattle.lists.specs.Found.{Found, absent, at}
+use Rattle.distances.specs.declared.closing.Smallest.{Smallest}
+use Rattle.distances.specs.declared.closing.Smallest.the-variants.{Absent, At}
+
+abbrev pub smallest : List ℕ → Found
+smallest [] = absent
+smallest (x ∷ xs) = at (least (x ∷ xs))
+
+abbrev pub smallestSaid : Smallest → Found
+smallestSaid Absent = absent
+smallestSaid (At v) = at v
