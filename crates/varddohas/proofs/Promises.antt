@@ -3,11 +3,11 @@
 -- Rests on paper's Heard, trust_theory, path_theory and bytes_theory.
 use Prim.Native.Nat.{ℕ, _/_}
 use mathlib.Core.Path.{_≡_, refl, sym, ap, _∙_, subst}
-use mathlib.Core.List.{List, [], _∷_}
+use mathlib.Core.List.{List, [], _∷_, _++_}
 use lib.ListN.{length}
 use lib.Seq.{sets, length-sets}
-use Rattle.paper.specs.Refusals.{Ruling, passed, refusal, onRefusal}
-use Rattle.paper.specs.Calls.{callInto, isNodeConvex, topoIsNodeConvex, isConvex, topoIsConvex, showPath}
+use Rattle.paper.specs.Refusals.{Ruling, passed, refusal, decide, onRefusal}
+use Rattle.paper.specs.Calls.{opening, callInto, isNodeConvex, topoIsNodeConvex, isConvex, topoIsConvex, showPath}
 use Rattle.paper.specs.Exports.{Export, ExportWith, export, exportWith, inLineReply, inReply, inShown, heardLine, heardOrder, heardPath}
 use Rattle.paper.specs.Words.{wordsFrom}
 use Rattle.paper.specs.Promise.{
@@ -79,10 +79,14 @@ module _ {b a list after : List ℕ} {case number place : ℕ} (bytes : List ℕ
 
 -- ---- the path: the host reads its steps from the buffer
 
-left-long : (u : Ruling) (words result : List ℕ) → length (onRefusal u words (sets words 0 result)) ≡ length words
-unfolding onRefusal
-left-long passed words result = length-sets words 0 result
-left-long (refusal n i) words result = refl
+-- a call leaves its buffer as long as it was
+left-long : {A : Type 0} (b a : List ℕ) (rules : List Ruling) (x : A) (words result : List ℕ) → length (callInto b a rules x words result .buffer) ≡ length words
+unfolding callInto onRefusal
+left-long b a rules x words result = by (decide (opening b a ++ rules))
+  where
+    by : (u : Ruling) → length (onRefusal u words (sets words 0 result)) ≡ length words
+    by passed = length-sets words 0 result
+    by (refusal n i) = refl
 
 module _ {b a list after left : List ℕ} {case count number place : ℕ} (bytes buffer : List ℕ) (c₀ n₀ p₀ : ℕ) where
   pub path-kept : record { told = record { case = case; values = count ∷ []; number = number; place = place }; area = after; buffer = left }
@@ -90,14 +94,14 @@ module _ {b a list after left : List ℕ} {case count number place : ℕ} (bytes
       → Trusted b a
       → StepList b list
       → PathPromise b list (wordsFrom buffer) (wordsFrom left) (heardPath case count number place)
-  unfolding exportWith showPath callInto
+  unfolding exportWith showPath
   path-kept e trusted steps =
       subst (PathPromise b list (wordsFrom buffer) (wordsFrom left)) (sym (path-heard-told _ c₀ n₀ p₀ (ap (λ (x : ExportWith). x .told) e)))
       (subst (λ (words : List ℕ). PathPromise b list (wordsFrom buffer) words (showPath b a list (wordsFrom buffer) .answer)) (sym stands)
       (path-promise trusted steps (wordsFrom buffer)))
     where
       long : length (showPath b a list (wordsFrom buffer) .buffer) ≡ length buffer / 2
-      long = left-long _ (wordsFrom buffer) _ ∙ length-wordsFrom buffer
+      long = left-long b a _ _ (wordsFrom buffer) _ ∙ length-wordsFrom buffer
 
       stands : wordsFrom left ≡ showPath b a list (wordsFrom buffer) .buffer
       stands = ap (λ (x : ExportWith). wordsFrom (x .buffer)) e ∙ put-and-read buffer (showPath b a list (wordsFrom buffer) .buffer) long
