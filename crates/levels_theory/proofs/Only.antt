@@ -1,14 +1,16 @@
--- 02's sentences leave one path: two that are `ThePath` are equal.
--- Rests on the definitions alone.
+-- 02's sentences leave one path: two that are `ThePath` are equal, so what is computed is `ThePath` and nothing else is.
+-- Rests on Shortest.
 use Prim.Native.Nat.{ℕ, suc, _+_, _-_, _<_}
 use native.Mathlib.Decide.{decLt}
 use native.Mathlib.Omega.{arith}
 use mathlib.Core.Path.{_≡_, refl, sym, ap, _∙_}
-use mathlib.Core.Logic.{_⊎_, inl, inr}
+use mathlib.Core.Logic.{_⊎_, inl, inr, _↔_}
 use mathlib.Core.List.{List, _∷_, _++_}
 use lib.ListN.{length, getD, length-append}
 use lib.Seq.{getD-at, getD-append-add}
-use Rattle.paper.specs.Path.{Precedes, ThePath}
+use Rattle.paper.specs.Path.{Precedes, ThePath, Path, path, noPath, backPath}
+use Rattle.order_theory.specs.Sound.{Sound}
+use Rattle.levels_theory.proofs.Shortest.{path-found, the-path}
 
 -- the place where two of one length differ for the last time
 record Differ (steps others : List ℕ) : Type 0 where
@@ -74,3 +76,11 @@ the-path-once {steps = steps} {others} p q = go (p .first others (q .path) long)
     go (inl e) d = sym e
     go (inr r) (inl e) = e
     go (inr r) (inr t) = absurd (not-both (differ r long) (differ t (sym long)))
+
+module _ {b : List ℕ} (s : Sound b) (list : List ℕ) where
+  pub exactly-the-path : (vs : List ℕ) → (backPath b list ≡ path vs) ↔ ThePath b list vs
+  exactly-the-path vs = (the-path s list, λ p. go (backPath b list) refl p)
+    where
+      go : (found : Path) → backPath b list ≡ found → ThePath b list vs → backPath b list ≡ path vs
+      go (path ws) e p = e ∙ ap path (the-path-once (the-path s list e) p)
+      go noPath e p = absurd (path-found s list (p .path) e)

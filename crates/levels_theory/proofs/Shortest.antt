@@ -7,7 +7,7 @@ use mathlib.Core.Path.{_≡_, refl, sym, ap, _∙_, subst}
 use mathlib.Core.Logic.{inr}
 use mathlib.Core.List.{List, [], _∷_, _++_}
 use lib.ListN.{length, length-append}
-use Rattle.lists.specs.Lists.{In, any, least}
+use Rattle.lists.specs.Lists.{In, least}
 use Rattle.lists.specs.Found.{at}
 use Rattle.lists.proofs.First.{first-found}
 use Rattle.paper.specs.Map.{N}
@@ -15,7 +15,7 @@ use Rattle.paper.specs.Path.{BackPath, ThePath, fedBy, levelAt, endsAt, closing
 use Rattle.order_theory.specs.Sound.{Sound}
 use Rattle.convexity_theory.proofs.Memberships.{in-mem, some-any}
 use Rattle.levels_theory.proofs.Levels.{Fed, feeds, level-zero, met-near}
-use Rattle.levels_theory.proofs.Bounds.{level-within, closes-at, Written, written, path-length}
+use Rattle.levels_theory.proofs.Bounds.{level-within, returns, closes-at, Written, written, path-length}
 use Rattle.levels_theory.proofs.Ways.{way-outside, way-met}
 use Rattle.levels_theory.proofs.Judged.{Judged, judged-on, judged-way}
 use Rattle.levels_theory.proofs.Returns.{Return, path-return, back-path}
@@ -59,7 +59,7 @@ module _ {b : List ℕ} (s : Sound b) (list : List ℕ) where
   return-closes r l =
       let d = l .before in
       let fed = feeds b (levelAt b list (suc d)) (r .end) (return-feeds r (suc d) (l .there)) in
-      let f = first-found (λ k. any (fedBy b (levelAt b list (suc k))) list) (N b) d (omega (arith, level-within b list (suc d) (r .last) (l .there))) (some-any (fedBy b (levelAt b list (suc d))) (in-mem list (r .listed)) fed) in
+      let f = first-found (returns b list) (N b) d (omega (arith, level-within b list (suc d) (r .last) (l .there))) (some-any (fedBy b (levelAt b list (suc d))) (in-mem list (r .listed)) fed) in
       record { place = f .place; closed = f .found; soon = f .early }
 
   -- where there is a path back, one is found

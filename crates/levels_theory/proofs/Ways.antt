@@ -36,7 +36,7 @@ way-outside (further w r out) h = out
 
 module _ {b : List ℕ} (s : Sound b) (list : List ℕ) where
   -- a link leads to a step met one distance on
-  pub link-met : {u v : ℕ} (d : ℕ) → Linked b u v → In u (levelAt b list d) → In v (rounds b list (suc d) .met)
+  link-met : {u v : ℕ} (d : ℕ) → Linked b u v → In u (levelAt b list d) → In v (rounds b list (suc d) .met)
   link-met {u} {v} d r i = go (decIn v (rounds b list d .met))
     where
       go : Dec (In v (rounds b list d .met)) → In v (rounds b list (suc d) .met)

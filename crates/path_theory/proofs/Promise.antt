@@ -5,6 +5,7 @@ use native.Mathlib.Decide.{decLe}
 use native.Mathlib.Omega.{arith}
 use borrow.Author.Tests.{lt-ltb}
 use mathlib.Core.Path.{_≡_, refl, sym, ap, _∙_, subst}
+use mathlib.Core.Logic.{_↔_, Iff·trans}
 use mathlib.Core.Bool.{Bool}
 use mathlib.Core.List.{List, [], _∷_, _++_, append-assoc}
 use lib.ListN.{length}
@@ -13,12 +14,15 @@ use Rattle.lists.specs.Found.{placed}
 use Rattle.lists.proofs.Sections.{part-sets-in}
 use Rattle.paper.specs.Path.{ThePath, Path, path, noPath, backPath, stepsOf, Shown, shownOf}
 use Rattle.paper.specs.Refusals.{Ruling, passed, refusal, refuse, rule11, decide, answered, answer, onRefusal}
-use Rattle.paper.specs.Calls.{opening, callInto, lineRules, showPath}
+use Rattle.paper.specs.Calls.{opening, callInto, lineRules, pathAnswer, showPath}
+use Rattle.paper.specs.Plain.{Convex}
 use Rattle.paper.specs.Promise.{Trusted, StepList, PathPromise, given, none, noRoom}
+use Rattle.paper.proofs.Promise.{same-answer}
 use Rattle.refusals.proofs.Rulings.{then-decides}
 use Rattle.trust_theory.proofs.Rules.{rule11-passes}
-use Rattle.trust_theory.proofs.Passing.{not-refused, trusted-sound, both-pass, line-passes}
+use Rattle.trust_theory.proofs.Passing.{answers, not-refused, trusted-sound, both-pass, line-passes}
 use Rattle.levels_theory.proofs.Shortest.{the-path}
+use Rattle.levels_theory.proofs.Only.{exactly-the-path}
 use Rattle.path_theory.proofs.NoPath.{no-path}
 
 one-rule : (u : Ruling) → decide (u ∷ []) ≡ u
@@ -41,7 +45,7 @@ Kept b list buffer found u =
 
 module _ {b a list : List ℕ} (t : Trusted b a) (s : StepList b list) (buffer : List ℕ) where
   -- where the line check's rules pass, 11 decides
-  pub last-decides : decide (opening b a ++ (lineRules b list ++ (asks buffer (backPath b list) ∷ []))) ≡ asks buffer (backPath b list)
+  last-decides : decide (opening b a ++ (lineRules b list ++ (asks buffer (backPath b list) ∷ []))) ≡ asks buffer (backPath b list)
   last-decides =
       ap decide (sym (append-assoc (opening b a) (lineRules b list) (asks buffer (backPath b list) ∷ [])))
       ∙ then-decides (opening b a ++ lineRules b list) (asks buffer (backPath b list) ∷ []) (sym (line-passes b a list .1 (t, s)))
@@ -86,3 +90,19 @@ module _ (b a list buffer : List ℕ) where
   path-answered-kept e =
       let p = path-answered-trusted e in
       subst (PathPromise b list buffer (showPath b a list buffer .buffer)) e (path-promise (p .0) (p .1) buffer)
+
+-- ---- the answer that no room limits
+
+module _ {b a list : List ℕ} (t : Trusted b a) (s : StepList b list) where
+  said : pathAnswer b a list ≡ answered (backPath b list)
+  unfolding pathAnswer
+  said = answers (backPath b list) (line-passes b a list .1 (t, s))
+
+  answered-as : (found : Path) → (pathAnswer b a list ≡ answered found) ↔ (backPath b list ≡ found)
+  answered-as found = (λ e. same-answer (sym said ∙ e), λ e. said ∙ ap answered e)
+
+  pub answered-path : (vs : List ℕ) → (pathAnswer b a list ≡ answered (path vs)) ↔ ThePath b list vs
+  answered-path vs = Iff·trans (answered-as (path vs)) (exactly-the-path (trusted-sound t) list vs)
+
+  pub answered-none : (pathAnswer b a list ≡ answered noPath) ↔ Convex b list
+  answered-none = Iff·trans (answered-as noPath) (no-path (trusted-sound t) list)
