@@ -1,6 +1,6 @@
 -- A node joins as `join` says: marked, its distance noted and appended, or left out; and what joins in turn joins together.
 -- Rests on walk_theory (Join, Joined) and lists.Sections.
-use Prim.Native.Nat.{ℕ, _+_, _<_}
+use Prim.Native.Nat.{ℕ, _+_, _≤_, _<_}
 use native.Mathlib.Decide.{ℕ-discrete}
 use native.Mathlib.Numerals.{add-one}
 use native.Mathlib.Omega.{arith}
@@ -8,18 +8,19 @@ use mathlib.Core.Path.{_≡_, refl, sym, ap, ap₂, _∙_, subst}
 use mathlib.Core.Logic.{inl}
 use mathlib.Core.Bool.{Bool, true, false, _&&_, _||_, not, or-true, or-false, and-false, or-assoc}
 use mathlib.Core.List.{List, [], _∷_, _++_}
-use lib.ListN.{length, getD, set, length-set}
-use lib.Seq.{getD-set-same, getD-set-other}
+use lib.ListN.{length, getD, set, take, drop, length-set}
+use lib.Seq.{getD-set-same, getD-set-other, take-take}
 use lib.Dec.{eqb}
 use borrow.Author.Tests.{eq-eqb, ne-eqb, eqb-true}
 use Rattle.lists.specs.Lists.{one, member}
-use Rattle.lists.proofs.Sections.{part, length-part, part-set-last, part-sets-out}
+use Rattle.lists.proofs.Sections.{part, length-part, getD-part, part-set-last, part-sets-out}
+use Rattle.lists.proofs.Extends.{extends-length, extends-take}
 use Rattle.walk_theory.specs.Marked.{join, joinAll}
 use Rattle.walk_theory.specs.Joined.{Joined}
-use Rattle.walk_theory.proofs.Join.{join-old, join-new, member-join, joinAll-append}
+use Rattle.walk_theory.proofs.Join.{join-old, join-new, member-join, joinAll-append, joinAll-extends}
 use Rattle.walk_theory.proofs.Joined.{join-joined, join-room}
 use Rattle.tables.proofs.Within.{within-none, within-both, within-set}
-use Rattle.distances.specs.Met.{tells, metSize, Met, Joins}
+use Rattle.distances.specs.Met.{tells, Met, Joins}
 
 -- ---- who is there when many have joined
 
@@ -200,3 +201,35 @@ module _ {a : List ℕ} {queue n joined v : ℕ} (q : Met a queue n joined) (kno
                 (within-set (within-set within-none (queue + n + v) 1 (omega arith) (omega arith)) (queue + n + n + v) d (omega arith) (omega arith))
                 (queue + joined) v (omega arith) (omega (arith, join-fits));
           }
+
+-- ---- what stands before stays
+
+module _ {a : List ℕ} {queue n joined d grown : ℕ} {nodes m : List ℕ} (before : Met a queue n joined) (j : Joins a queue n joined nodes d grown m) where
+  long-before : length (part a queue joined) ≡ joined
+  long-before = length-part a queue joined (omega (arith, before .fits, before .few))
+
+  pub joins-rise : joined ≤ grown
+  joins-rise =
+      omega (
+        arith,
+        long-before,
+        length-part m queue grown (omega (arith, j .met .fits, j .met .few)),
+        ap length (j .whole),
+        extends-length (joinAll-extends (part a queue joined) nodes),
+      )
+
+  -- the first places
+  pub joins-keep : (k : ℕ) → k ≤ joined → part m queue k ≡ part a queue k
+  joins-keep k h =
+      sym (take-take k grown (drop queue m) (omega (arith, joins-rise))) ∙ ap (take k) (j .whole)
+      ∙ extends-take (joinAll-extends (part a queue joined) nodes) k (omega (arith, long-before))
+      ∙ take-take k joined (drop queue a) h
+
+  pub joins-stand : (t : ℕ) → t < joined → getD m (queue + t) 0 ≡ getD a (queue + t) 0
+  joins-stand t h =
+      sym (getD-part m queue joined t 0 h) ∙ ap (λ (xs : List ℕ). getD xs t 0) (joins-keep joined (omega arith))
+      ∙ getD-part a queue joined t 0 h
+
+pub joins-as : {a m : List ℕ} {queue n joined d grown : ℕ} {us vs : List ℕ} → us ≡ vs → Joins a queue n joined us d grown m
+    → Joins a queue n joined vs d grown m
+joins-as {a} {m} {queue} {n} {joined} {d} {grown} e j = subst (λ (us : List ℕ). Joins a queue n joined us d grown m) e j

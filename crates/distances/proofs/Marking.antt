@@ -4,11 +4,11 @@ use Prim.Native.Nat.{ℕ, _+_, _≤_, _<_}
 use native.Mathlib.Decide.{ℕ-discrete}
 use native.Mathlib.Numerals.{add-one}
 use native.Mathlib.Omega.{arith}
-use mathlib.Core.Path.{_≡_, refl, sym, ap, _∙_, subst}
-use mathlib.Core.Logic.{inl, inr}
-use mathlib.Core.Bool.{Bool, true, false, _||_, or-true, or-false}
+use mathlib.Core.Path.{_≡_, sym, ap, _∙_, subst}
+use mathlib.Core.Logic.{inl}
+use mathlib.Core.Bool.{false, _||_, or-true, or-false}
 use mathlib.Core.List.{List, [], _∷_, _++_}
-use lib.ListN.{length, getD, set, replicate, length-replicate, length-set}
+use lib.ListN.{length, getD, set, replicate, length-replicate}
 use lib.Seq.{sets, getD-set-same, getD-set-other}
 use lib.Dec.{eqb}
 use borrow.Author.Tests.{eq-eqb, ne-eqb}
@@ -107,15 +107,15 @@ module _ {a : List ℕ} {queue n count : ℕ} (l : Listed a queue n count) {o : 
       same = list-stands queue count (l .fits) (l .few) kept
 
 module _ {o : List ℕ} {queue n count : ℕ} (l : Listed o queue n count) {i : ℕ} (h : i < count) {m : List ℕ} (g : Marking o queue n i m) where
-  pub node-inside : queue + i < length m
-  node-inside = omega (arith, l .fits, l .few, g .kept .long)
+  pub listed-inside : queue + i < length m
+  listed-inside = omega (arith, l .fits, l .few, g .kept .long)
 
   module _ {v : ℕ} (read : v ≡ getD m (queue + i) 0) where
     v-is : v ≡ getD o (queue + i) 0
     v-is = read ∙ g .kept .same (queue + i) (inl (omega (arith, l .few)))
 
-    pub node-known : v < n
-    node-known =
+    listed-known : v < n
+    listed-known =
         omega (
           arith,
           v-is,
@@ -124,14 +124,14 @@ module _ {o : List ℕ} {queue n count : ℕ} (l : Listed o queue n count) {i : 
         )
 
     pub mark-inside : queue + n + v < length m
-    mark-inside = omega (arith, node-known, l .fits, g .kept .long)
+    mark-inside = omega (arith, listed-known, l .fits, g .kept .long)
 
     pub marking-next : Marking o queue n (i + 1) (set m (queue + n + v) 1)
     marking-next =
         record {
           marks = λ u k. go u k (ℕ-discrete u v) ∙ ap one (sym (member-snoc u (part o queue i) v) ∙ ap (member u) (sym longer));
-          near = λ u k. getD-set-other m (queue + n + v) (queue + n + n + u) 1 0 (λ e. omega (arith, node-known)) ∙ g .near u k;
-          kept = within-set (g .kept) (queue + n + v) 1 (omega arith) (omega (arith, node-known));
+          near = λ u k. getD-set-other m (queue + n + v) (queue + n + n + u) 1 0 (λ e. omega (arith, listed-known)) ∙ g .near u k;
+          kept = within-set (g .kept) (queue + n + v) 1 (omega arith) (omega (arith, listed-known));
         }
       where
         longer : part o queue (i + 1) ≡ part o queue i ++ (v ∷ [])

@@ -6,7 +6,7 @@ use mathlib.Core.Bool.{Bool, _&&_, _||_, not}
 use mathlib.Core.List.{List}
 use lib.ListN.{length, getD}
 use lib.Dec.{eqb}
-use Rattle.lists.specs.Lists.{one, member}
+use Rattle.lists.specs.Lists.{one, keep, member}
 use Rattle.lists.proofs.Sections.{part}
 use Rattle.walk_theory.specs.Joined.{Joined}
 use Rattle.walk_theory.specs.Marked.{joinAll}
@@ -15,6 +15,10 @@ use Rattle.tables.specs.Within.{Within}
 -- node v is marked, with distance d
 unfoldable pub tells : List ℕ → ℕ → ℕ → ℕ → ℕ → Bool
 tells a queue n v d = not (eqb (getD a (queue + n + v) 0) 0) && eqb (getD a (queue + n + n + v) 0) d
+
+-- those of some nodes that are marked with distance 0: the listed ones
+unfoldable pub listedOf : List ℕ → ℕ → ℕ → List ℕ → List ℕ
+listedOf a queue n = keep (λ v. tells a queue n v 0)
 
 -- room for n nodes, their marks and their distances
 abbrev pub metSize : ℕ → ℕ

@@ -2,3 +2,4 @@
 // `queue` on, the nodes that were met, the list first; after n words a mark for each node that was met, and after n more its distance.
 pub mod closing;
 pub mod queue;
+pub mod rounds;

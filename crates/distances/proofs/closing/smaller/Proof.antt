@@ -1,28 +1,19 @@
+-- `distances::closing::smaller` meets its contract: a law for each return.
+-- Rests on Smallest.
 use borrow.Author.Needs.{needs}
+use Rattle.distances.proofs.Smallest.{smaller-of-none, smaller-new, smaller-old}
 use Rattle.distances.proofs.closing.smaller.Statement.{statement}
 use Rattle.distances.proofs.closing.smaller.Tie as tie
-use Rattle.distances.proofs.closing.smaller.Reads as reads
-use Rattle.distances.proofs.closing.smaller.Lts as lts
 
--- src/closing.rt:20:22
-enum-known-found : tie.Need-enum-known-found
-enum-known-found c = search needs
-
--- src/closing.rt:21:9
-enum-told : tie.Need-enum-told
-enum-told c = search needs
-
--- src/closing.rt:21:9
 returns : tie.Need-returns
-returns c = ?
+returns c = smaller-of-none (c .before .before .args .found) (c .before .before .args .v) (c .enum-told .given .1)
 
--- src/closing.rt:24:9
 returns-2 : tie.Need-returns-2
-returns-2 c = ?
+returns-2 c = smaller-new (c .before .before .before .before .args .found) (c .before .before .before .before .args .v) (c .before .before .found .given .1) (c .if1 .taken)
 
--- src/closing.rt:17:1
 returns-3 : tie.Need-returns-3
-returns-3 c = ?
+returns-3 c = smaller-old (c .before .before .before .before .args .found) (c .before .before .before .before .args .v) (c .before .before .found .given .1) (c .if1 .left)
 
 pub smaller-spec : {M : Type 1} → statement M
-smaller-spec = tie.close (tie.spec enum-known-found enum-told returns returns-2 returns-3)
+smaller-spec = tie.close (tie.spec
+    (search needs) (search needs) returns returns-2 returns-3)
