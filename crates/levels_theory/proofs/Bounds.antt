@@ -17,7 +17,7 @@ use Rattle.lists.proofs.Compare.{fits}
 use Rattle.lists.proofs.First.{first-at, first-is, first-none}
 use Rattle.lists.proofs.Upto.{count-append}
 use Rattle.paper.specs.Map.{N}
-use Rattle.paper.specs.Path.{fedBy, farther, rounds, levelAt, endsAt, closing, stepBefore, pathTo, path, pathFrom, backPath}
+use Rattle.paper.specs.Path.{fedBy, farther, rounds, levelAt, endsAt, closing, stepBefore, pathTo, Path, path, noPath, pathFrom, backPath, stepsOf}
 use Rattle.convexity_theory.proofs.Memberships.{mem-in, in-either, times-out, times-distinct, decIn, Some, any-some}
 use Rattle.levels_theory.proofs.Levels.{
   Fed,
@@ -33,10 +33,6 @@ use Rattle.levels_theory.proofs.Levels.{
   SmallestEnd,
   smallest-end,
 }
-
-alone : {x : ℕ} (P : ℕ → Type 0) → P x → (v : ℕ) → In v (x ∷ []) → P v
-alone P p v (inl e) = subst P (sym e) p
-alone P p v (inr none) = absurd none
 
 -- ---- the levels within N
 
@@ -101,54 +97,55 @@ module _ (b list some : List ℕ) (once : Distinct some) (listed : (v : ℕ) →
   pub levels-fit : (d v : ℕ) → In v (levelAt b list d) → length some + d ≤ N b
   levels-fit d v i = omega (arith, gathered-many d v i, fits (N b) (gathered b list some d) (gathered-known d) (gathered-once d))
 
+pub level-within : (b list : List ℕ) (d v : ℕ) → In v (levelAt b list d) → d ≤ N b
+level-within b list d v i = omega (arith, levels-fit b list [] tt (λ u j. absurd j) (λ u j. absurd j) d v i)
+
+-- ---- where the way back closes
+
+-- a step at distance d + 1 is linked to a listed one
+abbrev pub returns : List ℕ → List ℕ → ℕ → Bool
+returns b list d = any (fedBy b (levelAt b list (suc d))) list
+
 module _ (b list : List ℕ) where
-  pub level-within : (d v : ℕ) → In v (levelAt b list d) → d ≤ N b
-  level-within d v i = omega (arith, levels-fit b list [] tt (λ u j. absurd j) (λ u j. absurd j) d v i)
-
-  -- ---- where the way back closes
-
-  -- a listed step to which a step at distance d is linked
-  fed-end : (d : ℕ) → any (fedBy b (levelAt b list d)) list ≡ true → (v : ℕ) × In v list × Fed b (levelAt b list d) v
-  fed-end d e = go (any-some (fedBy b (levelAt b list d)) list e)
+  -- .. and which
+  returning : (d : ℕ) → returns b list d ≡ true → (v : ℕ) × In v list × Fed b (levelAt b list (suc d)) v
+  returning d e = go (any-some (fedBy b (levelAt b list (suc d))) list e)
     where
-      go : Some (fedBy b (levelAt b list d)) true list → (v : ℕ) × In v list × Fed b (levelAt b list d) v
-      go s = (s .which, mem-in list (s .there), fed-by b (levelAt b list d) (s .which) (s .says))
+      go : Some (fedBy b (levelAt b list (suc d))) true list → (v : ℕ) × In v list × Fed b (levelAt b list (suc d)) v
+      go s = (s .which, mem-in list (s .there), fed-by b (levelAt b list (suc d)) (s .which) (s .says))
 
-  -- it closes at the first distance at which it does
-  pub closes : (d : ℕ) → any (fedBy b (levelAt b list (suc d))) list ≡ true
-      → ((e : ℕ) → e < d → any (fedBy b (levelAt b list (suc e))) list ≡ false) → closing b list ≡ at d
+  -- the first distance at which one is linked to the list is within N
+  pub closes : (d : ℕ) → returns b list d ≡ true → ((e : ℕ) → e < d → returns b list e ≡ false) → closing b list ≡ at d
   unfolding closing
   closes d e before =
-      let f = fed-end (suc d) e .2 in
-      first-is (λ k. any (fedBy b (levelAt b list (suc k))) list) (N b) d
-      (record { known = omega (arith, level-within (suc d) (f .from) (f .there)); passes = e; fail = before })
+      let f = returning d e .2 in
+      first-is (returns b list) (N b) d
+      (record { known = omega (arith, level-within b list (suc d) (f .from) (f .there)); passes = e; fail = before })
 
-  -- .. and never, where the levels end before it does
-  pub never-closes : (d : ℕ) → levelAt b list d ≡ [] → ((e : ℕ) → e < d → any (fedBy b (levelAt b list (suc e))) list ≡ false)
-      → closing b list ≡ absent
+  -- and none is, where the levels end before
+  pub never-closes : (d : ℕ) → levelAt b list d ≡ [] → ((e : ℕ) → e < d → returns b list e ≡ false) → closing b list ≡ absent
   unfolding closing
-  never-closes d none before = first-none (λ k. any (fedBy b (levelAt b list (suc k))) list) (N b) (λ e h. go e (decLt e d))
+  never-closes d none before = first-none (returns b list) (N b) (λ e h. go e (decLt e d))
     where
-      go : (e : ℕ) → Dec (e < d) → any (fedBy b (levelAt b list (suc e))) list ≡ false
+      go : (e : ℕ) → Dec (e < d) → returns b list e ≡ false
       go e (yes l) = before e l
       go e (no l) = fed-nowhere b list (suc e) (levels-end b list d (suc e) (omega arith) none)
 
-  -- where it closes there is a smallest end, and there is none before
+  -- where it closes there is a smallest end
   pub record ClosesAt (d : ℕ) : Type 0 where
     pub below : d < N b
     pub end : SmallestEnd b list (suc d) (least (endsAt b list (suc d)))
-    pub open-before : (e : ℕ) → e < d → any (fedBy b (levelAt b list (suc e))) list ≡ false
 
   pub closes-at : {d : ℕ} → closing b list ≡ at d → ClosesAt d
   unfolding closing
   closes-at {d} e =
-      let r = first-at (λ k. any (fedBy b (levelAt b list (suc k))) list) (N b) d e in
-      let w = fed-end (suc d) (r .passes) in
-      record { below = r .known; end = smallest-end b list (suc d) (w .0) (w .1) (w .2); open-before = r .fail }
+      let r = first-at (returns b list) (N b) d e in
+      let w = returning d (r .passes) in
+      record { below = r .known; end = smallest-end b list (suc d) (w .0) (w .1) (w .2) }
 
   -- ---- the path
 
-  -- what a computed path is
+  -- what a path that is computed is
   pub record Written (vs : List ℕ) : Type 0 where
     pub distance : ℕ
     pub closed : closing b list ≡ at distance
@@ -168,7 +165,7 @@ module _ (b list : List ℕ) where
   path-length (suc d) v =
       omega (arith, length-append (pathTo b list d (stepBefore b list d v)) (v ∷ []), path-length d (stepBefore b list d v))
 
-  -- listed steps, each known and taken once, and the path fit into N + 2: the path itself may have two of them
+  -- listed steps, known and each once, and the path: it may have two of them itself, its start and its end
   pub back-path-fits : (some : List ℕ) → Distinct some → ((v : ℕ) → In v some → In v list) → ((v : ℕ) → In v some → v < N b) → {vs : List ℕ}
       → backPath b list ≡ path vs → length some + length vs ≤ N b + 2
   back-path-fits some once listed known e =
@@ -184,42 +181,56 @@ module _ (b list : List ℕ) where
   pub back-path-length : {vs : List ℕ} → backPath b list ≡ path vs → length vs ≤ N b + 2
   back-path-length e = omega (arith, back-path-fits [] tt (λ v i. absurd i) (λ v i. absurd i) e)
 
-  -- where the listed steps are known
-  module _ (known : (v : ℕ) → In v list → v < N b) where
-    pub level-steps-known : (d v : ℕ) → In v (levelAt b list d) → v < N b
-    level-steps-known zero v i = known v (subst (In v) (level-zero b list) i)
-    level-steps-known (suc d) v i = level-next b list d v i .known
+  -- of a path or of none
+  pub few-steps : length (stepsOf (backPath b list)) ≤ N b + 2
+  unfolding stepsOf
+  few-steps = go (backPath b list) refl
+    where
+      go : (found : Path) → backPath b list ≡ found → length (stepsOf found) ≤ N b + 2
+      go (path vs) e = back-path-length e
+      go noPath e = omega arith
 
-    snoc-known : (vs : List ℕ) (v : ℕ) → ((u : ℕ) → In u vs → u < N b) → v < N b → (u : ℕ) → In u (vs ++ (v ∷ [])) → u < N b
-    snoc-known vs v before last u i = go (in-either u vs (v ∷ []) i)
-      where
-        go : In u vs ⊎ In u (v ∷ []) → u < N b
-        go (inl j) = before u j
-        go (inr j) = alone (λ w. w < N b) last u j
+-- ---- where the listed steps are known
 
-    pub path-steps-known : (d v : ℕ) → In v (levelAt b list d) → (u : ℕ) → In u (pathTo b list d v) → u < N b
-    unfolding pathTo
-    path-steps-known zero v i = snoc-known [] v (λ u j. absurd j) (level-steps-known zero v i)
-    path-steps-known (suc d) v i =
-        snoc-known (pathTo b list d (stepBefore b list d v)) v
-        (path-steps-known d (stepBefore b list d v) (step-before b list d v (level-next b list d v i .fed) .there))
-        (level-steps-known (suc d) v i)
+alone : {x : ℕ} (P : ℕ → Type 0) → P x → (v : ℕ) → In v (x ∷ []) → P v
+alone P p v (inl e) = subst P (sym e) p
+alone P p v (inr none) = absurd none
 
-    pub back-path-known : {vs : List ℕ} → backPath b list ≡ path vs → (u : ℕ) → In u vs → u < N b
-    unfolding pathTo
-    back-path-known e u i =
-        let w = written e in
-        let end = closes-at (w .closed) .end in
-        let d = suc (w .distance) in
-        let v = least (endsAt b list d) in
-        snoc-known (pathTo b list d (stepBefore b list d v)) v (path-steps-known d (stepBefore b list d v) (step-before b list d v (end .fed) .there))
-        (known v (end .listed)) u
-        (subst (In u) (w .whole) i)
+module _ (b list : List ℕ) (known : (v : ℕ) → In v list → v < N b) where
+  pub level-steps-known : (d v : ℕ) → In v (levelAt b list d) → v < N b
+  level-steps-known zero v i = known v (subst (In v) (level-zero b list) i)
+  level-steps-known (suc d) v i = level-next b list d v i .known
 
-    -- one of the two is its end
-    pub back-path-room : {vs : List ℕ} → backPath b list ≡ path vs → length vs ≤ N b + 1
-    back-path-room e =
-        let d = suc (written e .distance) in
-        let end = closes-at (written e .closed) .end in
-        let listed = alone {x = least (endsAt b list d)} (λ v. In v list) (end .listed) in
-        omega (arith, back-path-fits (least (endsAt b list d) ∷ []) (λ i. i, tt) listed (λ v i. known v (listed v i)) e)
+  snoc-known : (vs : List ℕ) (v : ℕ) → ((u : ℕ) → In u vs → u < N b) → v < N b → (u : ℕ) → In u (vs ++ (v ∷ [])) → u < N b
+  snoc-known vs v before last u i = go (in-either u vs (v ∷ []) i)
+    where
+      go : In u vs ⊎ In u (v ∷ []) → u < N b
+      go (inl j) = before u j
+      go (inr j) = alone (λ w. w < N b) last u j
+
+  pub path-steps-known : (d v : ℕ) → In v (levelAt b list d) → (u : ℕ) → In u (pathTo b list d v) → u < N b
+  unfolding pathTo
+  path-steps-known zero v i = snoc-known [] v (λ u j. absurd j) (level-steps-known zero v i)
+  path-steps-known (suc d) v i =
+      snoc-known (pathTo b list d (stepBefore b list d v)) v
+      (path-steps-known d (stepBefore b list d v) (step-before b list d v (level-next b list d v i .fed) .there))
+      (level-steps-known (suc d) v i)
+
+  pub back-path-known : {vs : List ℕ} → backPath b list ≡ path vs → (u : ℕ) → In u vs → u < N b
+  unfolding pathTo
+  back-path-known e u i =
+      let w = written b list e in
+      let end = closes-at b list (w .closed) .end in
+      let d = suc (w .distance) in
+      let v = least (endsAt b list d) in
+      snoc-known (pathTo b list d (stepBefore b list d v)) v (path-steps-known d (stepBefore b list d v) (step-before b list d v (end .fed) .there))
+      (known v (end .listed)) u
+      (subst (In u) (w .whole) i)
+
+  -- its end is listed
+  pub back-path-room : {vs : List ℕ} → backPath b list ≡ path vs → length vs ≤ N b + 1
+  back-path-room e =
+      let d = suc (written b list e .distance) in
+      let end = closes-at b list (written b list e .closed) .end in
+      let listed = alone {x = least (endsAt b list d)} (λ v. In v list) (end .listed) in
+      omega (arith, back-path-fits b list (least (endsAt b list d) ∷ []) (λ i. i, tt) listed (λ v i. known v (listed v i)) e)

@@ -1,7 +1,7 @@
--- The levels of a list by membership: who is linked to whom, who stands at the next distance, that no step stands at two, and how levels end.
--- Rests on convexity_theory's Memberships and Extremes.
+-- The levels of a list by membership: who is linked to whom, who stands at the next distance, who was met by then, how levels end,
+-- and the smallest steps that the path is made of. Rests on convexity_theory's Memberships and Extremes.
 use Prim.Native.Nat.{ℕ, zero, suc, _≤_, _<_}
-use native.Mathlib.Decide.{decLt, decLe}
+use native.Mathlib.Decide.{decLe}
 use native.Mathlib.Omega.{arith}
 use mathlib.Core.Path.{_≡_, refl, sym, ap, ap₂, _∙_, subst}
 use mathlib.Core.Logic.{_⊎_, inl, inr}
@@ -13,7 +13,6 @@ use Rattle.lists.specs.Lists.{In, upto, any, keep, member, least}
 use Rattle.paper.specs.Map.{N, L, linkFrom, linkTo}
 use Rattle.paper.specs.Plain.{Linked}
 use Rattle.paper.specs.Path.{leads, fedBy, farther, rounds, levelAt, endsAt, stepBefore}
-use Rattle.convexity_theory.proofs.Extremes.{least-most, least-in}
 use Rattle.records_theory.proofs.Among.{same-truth, and-both, any-none, upto-at}
 use Rattle.convexity_theory.proofs.Memberships.{
   in-mem,
@@ -30,6 +29,7 @@ use Rattle.convexity_theory.proofs.Memberships.{
   some-any,
   upto-below,
 }
+use Rattle.convexity_theory.proofs.Extremes.{least-most, least-in}
 
 -- ---- who is linked to whom
 
@@ -76,17 +76,24 @@ feeds b some v f = some-any (λ u. leads b u v) (in-mem some (f .there)) (linked
 
 -- ---- who stands at the next distance
 
--- linked from the last distance, not met before, known
+-- linked from the last distance and not met before, as a test
+abbrev joins : List ℕ → List ℕ → ℕ → ℕ → Bool
+joins b list d v = fedBy b (levelAt b list d) v && not (member v (rounds b list d .met))
+
+-- .. and as it is, known besides
 pub record Next (b list : List ℕ) (d v : ℕ) : Type 0 where
   pub fed : Fed b (levelAt b list d) v
   pub new : In v (rounds b list d .met) → ⊥
   pub known : v < N b
 
 module _ (b list : List ℕ) (d v : ℕ) where
+  in-upto : v < N b → In v (upto (N b))
+  in-upto h = mem-in (upto (N b)) (upto-at v (N b) h)
+
   pub level-next : In v (levelAt b list (suc d)) → Next b list d v
   unfolding levelAt rounds farther
   level-next i =
-      let k = kept (λ w. fedBy b (levelAt b list d) w && not (member w (rounds b list d .met))) v (upto (N b)) i in
+      let k = kept (joins b list d) v (upto (N b)) i in
       let both = and-both (fedBy b (levelAt b list d) v) (not (member v (rounds b list d .met))) (k .0) in
       record {
         fed = fed-by b (levelAt b list d) v (both .0);
@@ -97,12 +104,21 @@ module _ (b list : List ℕ) (d v : ℕ) where
   pub next-level : Next b list d v → In v (levelAt b list (suc d))
   unfolding levelAt rounds farther
   next-level n =
-      in-keep (λ w. fedBy b (levelAt b list d) w && not (member w (rounds b list d .met))) v (upto (N b))
-      (ap₂ _&&_ (feeds b (levelAt b list d) v (n .fed)) (ap not (not-member (member v (rounds b list d .met)) refl))) (mem-in (upto (N b)) (upto-at v (N b) (n .known)))
+      in-keep (joins b list d) v (upto (N b))
+      (ap₂ _&&_ (feeds b (levelAt b list d) v (n .fed)) (ap not (not-met (member v (rounds b list d .met)) refl)))
+      (in-upto (n .known))
     where
-      not-member : (t : Bool) → member v (rounds b list d .met) ≡ t → member v (rounds b list d .met) ≡ false
-      not-member true e = absurd (n .new (member-in v (rounds b list d .met) e))
-      not-member false e = e
+      not-met : (t : Bool) → member v (rounds b list d .met) ≡ t → t ≡ false
+      not-met true e = absurd (n .new (member-in v (rounds b list d .met) e))
+      not-met false e = refl
+
+  -- the next level's own test
+  pub level-member : v < N b → member v (levelAt b list (suc d)) ≡ (fedBy b (levelAt b list d) v && not (member v (rounds b list d .met)))
+  unfolding levelAt rounds farther
+  level-member h =
+      let level = keep (joins b list d) (upto (N b)) in
+      same-truth (member v level) (joins b list d v) (λ e. kept (joins b list d) v (upto (N b)) (member-in v level e) .0)
+      (λ e. in-member v level (in-keep (joins b list d) v (upto (N b)) e (in-upto h)))
 
 module _ (b list : List ℕ) where
   -- at the start the list itself
@@ -117,16 +133,6 @@ module _ (b list : List ℕ) where
   pub met-next : (d : ℕ) → rounds b list (suc d) .met ≡ rounds b list d .met ++ levelAt b list (suc d)
   unfolding levelAt rounds
   met-next d = refl
-
-  -- as a test
-  pub level-member : (d v : ℕ) → v < N b → member v (levelAt b list (suc d)) ≡ (fedBy b (levelAt b list d) v && not (member v (rounds b list d .met)))
-  unfolding levelAt rounds farther
-  level-member d v h =
-      same-truth (member v (keep test (upto (N b)))) (test v) (λ e. kept test v (upto (N b)) (member-in v (keep test (upto (N b))) e) .0)
-      (λ e. in-member v (keep test (upto (N b))) (in-keep test v (upto (N b)) e (mem-in (upto (N b)) (upto-at v (N b) h))))
-    where
-      test : ℕ → Bool
-      test w = fedBy b (levelAt b list d) w && not (member w (rounds b list d .met))
 
 -- ---- what was met
 
@@ -162,22 +168,9 @@ module _ (b list : List ℕ) where
       go (inl m) nearer = let n = nearer m in record { distance = n .distance; close = omega arith; there = n .there }
       go (inr here) nearer = record { distance = suc d; close = omega arith; there = here }
 
-  -- a step stands at no distance after one at which it was met
-  pub not-again : (d e v : ℕ) → d < e → In v (rounds b list d .met) → In v (levelAt b list e) → ⊥
-  not-again d zero v h m i = omega arith
-  not-again d (suc e) v h m i = level-next b list e v i .new (met-later d e v (omega arith) m)
-
-  pub level-once : (d e v : ℕ) → In v (levelAt b list d) → In v (levelAt b list e) → d ≡ e
-  level-once d e v i j = go (decLt d e) (decLt e d)
-    where
-      go : Dec (d < e) → Dec (e < d) → d ≡ e
-      go (yes l) r = absurd (not-again d e v l (level-met d v i) j)
-      go (no l) (yes r) = absurd (not-again e d v r (level-met e v j) i)
-      go (no l) (no r) = omega arith
-
   -- from 1 on levels are outside the list
   pub level-outside : (d v : ℕ) → In v (levelAt b list (suc d)) → In v list → ⊥
-  level-outside d v i = λ listed. level-next b list d v i .new (list-met d v listed)
+  level-outside d v i listed = level-next b list d v i .new (list-met d v listed)
 
 -- ---- levels end
 
@@ -187,7 +180,7 @@ nobody (x ∷ xs) none = absurd (none x (inl refl))
 
 module _ (b list : List ℕ) where
   -- behind a step at one distance stands one at each distance before
-  pub level-before : (d e v : ℕ) → e ≤ d → In v (levelAt b list d) → (u : ℕ) × In u (levelAt b list e)
+  level-before : (d e v : ℕ) → e ≤ d → In v (levelAt b list d) → (u : ℕ) × In u (levelAt b list e)
   level-before zero e v h i = (v, subst (λ (n : ℕ). In v (levelAt b list n)) (omega arith) i)
   level-before (suc d) e v h i = go (decLe e d) (level-before d e)
     where

@@ -20,11 +20,6 @@ use Rattle.convexity_theory.proofs.Paths.{neighbour-linked, linked-neighbour}
 use Rattle.levels_theory.proofs.Levels.{leads-linked, linked-leads, Fed, fed-by, feeds}
 
 module _ {b : List ℕ} (s : Sound b) where
-  pub leads-out : (u v : ℕ) → leads b u v ≡ member v (outNeighbours b u)
-  leads-out u v =
-      same-truth (leads b u v) (member v (outNeighbours b u)) (λ e. in-member v (outNeighbours b u) (linked-neighbour s u v (leads-linked b u v e)))
-      (λ e. linked-leads b (neighbour-linked s u v (member-in v (outNeighbours b u) e)))
-
   -- what some steps are linked to
   pub fed-out : (some : List ℕ) (v : ℕ) → fedBy b some v ≡ member v (flatMap (outNeighbours b) some)
   fed-out some v =
