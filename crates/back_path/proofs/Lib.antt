@@ -1,0 +1,5 @@
+pub mod Searching
+pub mod Written
+pub mod Told
+pub mod Answers
+pub mod Listing
