@@ -26,7 +26,7 @@ use Rattle.back_path.specs.Said.{pathSaid}
 use Rattle.back_path.specs.declared.showing.PathAnswer.{PathAnswer}
 use Rattle.back_path.specs.declared.showing.PathAnswer.the-variants.{Path as Shows}
 use Rattle.back_path.proofs.showing.PathAnswer.{the-type}
-use Rattle.back_path.proofs.Answers.{pathSaid-injective}
+use Rattle.back_path.proofs.Apart.{pathSaid-injective}
 use Rattle.byte_lists.proofs.Few.{room-decides, long-enough}
 use Rattle.byte_lists.proofs.IntoBytes.{bytes-back, answer-told}
 use Rattle.byte_lists.proofs.Room.{InRoom, room-says, nothing-put, words-put}

@@ -4,7 +4,7 @@ use native.Mathlib.Omega.{arith}
 use mathlib.Core.Path.{sym, _∙_}
 use Rattle.tables.proofs.Within.{within-none}
 use Rattle.tables.proofs.Usable.{still-usable}
-use Rattle.line_checker.proofs.Into.{into-answered}
+use Rattle.intervals.proofs.Into.{into-answered}
 use Rattle.line_checker.proofs.IntervalsFound.{empty-into, refused-into}
 use Rattle.intervals.proofs.Taken.{taken-kept, not-taken, all-taken, listed}
 use Rattle.words.proofs.Turns.{length-wordsFrom}
