@@ -1,3 +1,4 @@
 pub mod Met
 pub mod Reached
+pub mod Smallest
 pub mod Closed

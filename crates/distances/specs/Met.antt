@@ -6,15 +6,19 @@ use mathlib.Core.Bool.{Bool, _&&_, _||_, not}
 use mathlib.Core.List.{List}
 use lib.ListN.{length, getD}
 use lib.Dec.{eqb}
-use Rattle.lists.specs.Lists.{one, member}
+use Rattle.lists.specs.Lists.{one, keep, member}
 use Rattle.lists.proofs.Sections.{part}
 use Rattle.walk_theory.specs.Joined.{Joined}
-use Rattle.walk_theory.specs.Marked.{join}
+use Rattle.walk_theory.specs.Marked.{joinAll}
 use Rattle.tables.specs.Within.{Within}
 
 -- node v is marked, with distance d
 unfoldable pub tells : List ℕ → ℕ → ℕ → ℕ → ℕ → Bool
 tells a queue n v d = not (eqb (getD a (queue + n + v) 0) 0) && eqb (getD a (queue + n + n + v) 0) d
+
+-- those of some nodes that are marked with distance 0: the listed ones
+unfoldable pub listedOf : List ℕ → ℕ → ℕ → List ℕ → List ℕ
+listedOf a queue n = keep (λ v. tells a queue n v 0)
 
 -- room for n nodes, their marks and their distances
 abbrev pub metSize : ℕ → ℕ
@@ -42,10 +46,10 @@ pub record ListMarked (a : List ℕ) (queue n count : ℕ) (m : List ℕ) : Type
   pub near : (u : ℕ) → u < n → getD m (queue + n + n + u) 0 ≡ 0
   pub kept : Within queue (metSize n) a m
 
--- node v joined at distance d, unless it was met before
-pub record Joins (a : List ℕ) (queue n joined v d grown : ℕ) (m : List ℕ) : Type 0 where
+-- some nodes joined at distance d, those that were not met before: from a to m, from `joined` to `grown`
+pub record Joins (a : List ℕ) (queue n joined : ℕ) (nodes : List ℕ) (d grown : ℕ) (m : List ℕ) : Type 0 where
   pub met : Met m queue n grown
-  pub whole : part m queue grown ≡ join (part a queue joined) v
+  pub whole : part m queue grown ≡ joinAll (part a queue joined) nodes
   pub told : (u e : ℕ) → u < n
-      → tells m queue n u e ≡ tells a queue n u e || (not (member v (part a queue joined)) && eqb u v && eqb d e)
+      → tells m queue n u e ≡ (tells a queue n u e || ((member u nodes && not (member u (part a queue joined))) && eqb d e))
   pub kept : Within queue (metSize n) a m

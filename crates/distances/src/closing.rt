@@ -2,11 +2,19 @@
 use super::queue::at_distance;
 use super::rounds::round;
 use neighbours::Places;
-use neighbours::target;
+use neighbours::target_at;
 use neighbours::targets_start;
 use words::section::word_at;
+ghost use mathlib.Core.Path.{_≡_};
+ghost use mathlib.Core.List.{[], _∷_, _++_};
+ghost use Prim.Native.Nat.{_+_, _<_, _≤_};
+ghost use lib.ListN.{length};
+ghost use Rattle.lists.specs.Found.{listed};
 ghost use Rattle.lists.proofs.Sections.{part};
-ghost use Rattle.distances.specs.Reached.{Reached, Standing};
+ghost use Rattle.paper.specs.Map.{outNeighbours};
+ghost use Rattle.distances.specs.Met.{Met, listedOf, metSize};
+ghost use Rattle.distances.specs.Reached.{Reached, Standing, targetsIn};
+ghost use Rattle.distances.specs.Smallest.{smallest, smallestSaid};
 ghost use Rattle.distances.specs.Closed.{Closed};
 
 // The smallest of some nodes, or that there are none.
@@ -21,13 +29,27 @@ pub enum Closing {
     At(usize, usize),
 }
 
-// The smallest of some nodes and v.
-fn smaller(found: Smallest, v: usize) -> Smallest {
+// The smaller of what was found and node v.
+fn smaller(found: Smallest, v: usize) -> Smallest
+    ensures { λ r. ⌜ smallestSaid r ≡ smallest (listed (smallestSaid found) ++ (v ∷ [])) ⌝ }
+{
     let Smallest::At(u) = found else {
         return Smallest::At(v);
     };
     if v < u {
         return Smallest::At(v);
+    }
+    found
+}
+
+// The smaller of what was found and node v, if v is listed.
+fn smaller_listed(area: &[u16], queue: usize, n: usize, v: usize, found: Smallest) -> Smallest
+    requires { ⌜ queue + metSize n ≤ length (now area) ⌝ }
+    requires { ⌜ v < n ⌝ }
+    ensures { λ r. ⌜ smallestSaid r ≡ smallest (listed (smallestSaid found) ++ listedOf (now (area .entry)) queue n (v ∷ [])) ⌝ }
+{
+    if at_distance(area, queue, n, v, 0) {
+        return smaller(found, v);
     }
     found
 }
@@ -41,15 +63,18 @@ fn smallest_target(
     at: Places,
     v: usize,
     found: Smallest,
-) -> Smallest {
+) -> Smallest
+    requires { ⌜ Standing (now b) (now area) n queue at ⌝ }
+    requires { ⌜ v < n ⌝ }
+    ensures { λ r. ⌜ smallestSaid r
+        ≡ smallest (listed (smallestSaid found) ++ listedOf (now (area .entry)) queue n (outNeighbours (now (b .entry)) v)) ⌝ }
+{
     let mut i = targets_start(b, n, area, at, v);
     let end = targets_start(b, n, area, at, v + 1);
     let mut best = found;
     while i < end {
-        let w = target(b, n, area, at, i);
-        if at_distance(area, queue, n, w, 0) {
-            best = smaller(best, w);
-        }
+        let w = target_at(b, n, area, at, i);
+        best = smaller_listed(area, queue, n, w, best);
         i += 1;
     }
     best
@@ -64,7 +89,13 @@ fn smallest_end(
     at: Places,
     from: usize,
     to: usize,
-) -> Smallest {
+) -> Smallest
+    requires { ⌜ Standing (now b) (now area) n queue at ⌝ }
+    requires { ⌜ Met (now area) queue n to ⌝ }
+    requires { ⌜ from ≤ to ⌝ }
+    ensures { λ r. ⌜ smallestSaid r
+        ≡ smallest (listedOf (now (area .entry)) queue n (targetsIn (now (b .entry)) (now (area .entry)) queue from to)) ⌝ }
+{
     let mut best = Smallest::Absent;
     let mut t = from;
     while t < to {

@@ -1,5 +1,6 @@
 // The nodes that were met, with their marks and distances.
 ghost use mathlib.Core.Path.{_≡_};
+ghost use mathlib.Core.List.{[], _∷_};
 ghost use Prim.Native.Nat.{_+_, _<_, _≤_};
 ghost use lib.ListN.{length};
 ghost use Rattle.distances.specs.Met.{Joins, ListMarked, Listed, Met, metSize, tells};
@@ -23,7 +24,7 @@ pub fn at_distance(area: &[u16], queue: usize, n: usize, v: usize, d: usize) -> 
 pub fn join(area: &mut [u16], queue: usize, n: usize, joined: usize, v: usize, d: usize) -> usize
     requires { ⌜ Met (now area) queue n joined ⌝ }
     requires { ⌜ (v < n) × (d ≤ n) ⌝ }
-    ensures { λ r. ⌜ Joins (now (area .entry)) queue n joined v d r (now (area .exit)) ⌝ }
+    ensures { λ r. ⌜ Joins (now (area .entry)) queue n joined (v ∷ []) d r (now (area .exit)) ⌝ }
 {
     if area[queue + n + v] != 0 {
         return joined;

@@ -1,12 +1,13 @@
-// A round: the targets of the nodes at one distance join at the next.
+// A round: what the nodes at one distance are linked to joins at the next.
 use super::queue::join;
 use neighbours::Places;
-use neighbours::target;
+use neighbours::target_at;
 use neighbours::targets_start;
 use words::section::word_at;
-ghost use Prim.Native.Nat.{_≤_};
-ghost use Rattle.distances.specs.Met.{Met};
-ghost use Rattle.distances.specs.Reached.{Rounded, Standing};
+ghost use Prim.Native.Nat.{_<_, _≤_};
+ghost use Rattle.paper.specs.Map.{outNeighbours};
+ghost use Rattle.distances.specs.Met.{Joins, Met};
+ghost use Rattle.distances.specs.Reached.{Standing, targetsIn};
 
 // Lets the steps that node v is linked to join at distance d; answers how many have joined.
 fn join_targets(
@@ -18,12 +19,18 @@ fn join_targets(
     joined: usize,
     v: usize,
     d: usize,
-) -> usize {
+) -> usize
+    requires { ⌜ Standing (now b) (now area) n queue at ⌝ }
+    requires { ⌜ Met (now area) queue n joined ⌝ }
+    requires { ⌜ (v < n) × (d ≤ n) ⌝ }
+    ensures { λ r. ⌜ Joins (now (area .entry)) queue n joined (outNeighbours (now (b .entry)) v) d r (now (area .exit)) ⌝ }
+{
     let mut i = targets_start(b, n, area, at, v);
     let end = targets_start(b, n, area, at, v + 1);
     let mut grown = joined;
     while i < end {
-        grown = join(area, queue, n, grown, target(b, n, area, at, i), d);
+        let w = target_at(b, n, area, at, i);
+        grown = join(area, queue, n, grown, w, d);
         i += 1;
     }
     grown
@@ -43,7 +50,7 @@ pub fn round(
     requires { ⌜ Standing (now b) (now area) n queue at ⌝ }
     requires { ⌜ Met (now area) queue n to ⌝ }
     requires { ⌜ (from ≤ to) × (d ≤ n) ⌝ }
-    ensures { λ r. ⌜ Rounded (now (b .entry)) (now (area .entry)) queue n from to d r (now (area .exit)) ⌝ }
+    ensures { λ r. ⌜ Joins (now (area .entry)) queue n to (targetsIn (now (b .entry)) (now (area .entry)) queue from to) d r (now (area .exit)) ⌝ }
 {
     let mut grown = to;
     let mut t = from;

@@ -9,3 +9,5 @@ pub mod Cleared
 pub mod Records
 pub mod Whole
 pub mod Said
+pub mod Taken
+pub mod Into

@@ -4,17 +4,15 @@
 use Prim.Native.Nat.{ℕ, _*_, _≤_, _<_}
 use native.Mathlib.Omega.{arith}
 use mathlib.Core.Path.{_≡_, sym, ap, _∙_, subst}
-use mathlib.Core.Logic.{_≢_}
-use mathlib.Core.List.{List, [], _∷_}
-use lib.ListN.{length, getD, take}
+use mathlib.Core.List.{List, []}
+use lib.ListN.{length, take}
 use Rattle.lists.specs.Bounds.{Below}
-use Rattle.lists.specs.Lists.{Distinct}
 use Rattle.lists.proofs.Sections.{part, length-part, getD-part}
 use Rattle.paper.specs.Map.{N}
 use Rattle.paper.specs.Intervals.{Reply, No, Records, intervals}
 use Rattle.paper.specs.Walk.{walk, walkOn, lineCheck}
 use Rattle.paper.specs.Records.{recordsIn, wordsOfRecords}
-use Rattle.paper.specs.Refusals.{Ruling, passed, Answer, answered, answer, decide, rule8, rule9, rule10, rule12}
+use Rattle.paper.specs.Refusals.{Ruling, passed, Answer, answered, answer, decide, rule12}
 use Rattle.paper.specs.Calls.{lineRules, wordsOf}
 use Rattle.order_theory.proofs.Refusals.{sound}
 use Rattle.accepted_theory.specs.Every.{Every}
@@ -25,31 +23,20 @@ use Rattle.accepted_theory.proofs.Walk.{walk-same, lineCheck-same}
 use Rattle.records_theory.proofs.Passing.{intervals-pass-12}
 use Rattle.records_theory.proofs.Reading.{length-words}
 use Rattle.tables.specs.Answered.{Answered}
-use Rattle.tables.specs.Within.{Within}
-use Rattle.tables.specs.Usable.{Usable, Scratched, scratchAt, scratchSize}
+use Rattle.tables.specs.Usable.{Usable, Scratched, scratchAt}
 use Rattle.tables.specs.Recorded.{Recorded}
-use Rattle.tables.proofs.Within.{within-both, within-wider}
+use Rattle.tables.proofs.Within.{within-both}
 use Rattle.tables.proofs.Usable.{roomy, tables-still}
-use Rattle.refusals.specs.Said.{ruled, refusedBy, ruling}
-use Rattle.refusals.specs.declared.Refusal.{Refusal}
-use Rattle.refusals.proofs.Rulings.{no-refusal, ruling-answer}
 use Rattle.take_in.specs.Taking.{Known}
-use Rattle.take_in.specs.Said.{TakenIn, takenSaid, listRuled}
-use Rattle.take_in.specs.declared.Taken.{Taken}
-use Rattle.take_in.specs.declared.Taken.the-variants.{Nodes, Refused}
-use Rattle.take_in.proofs.Answers.{AllNodes, were-nodes}
-use Rattle.take_in.proofs.Passing.{rule9-is, known-below}
+use Rattle.take_in.proofs.Answers.{AllNodes}
 use Rattle.intervals.specs.Holds.{Listed}
 use Rattle.intervals.specs.Answer.{Collected, intervalsSaid, listIn}
 use Rattle.intervals.specs.declared.Intervals.{Intervals}
 use Rattle.intervals.specs.declared.Intervals.the-variants.{Records as Made, NotContiguous}
+use Rattle.intervals.proofs.Taken.{nodes-below, list-passed}
 use Rattle.walk.specs.Walks.{Walks, walkedSaid}
 use Rattle.walk.specs.declared.turns.Walked.{Walked}
 use Rattle.line_checker.proofs.Records.{Wrote, wrote-some, wrote-none, read-first, begun-long, whole-room, good-still}
-
--- a list of nodes of n is a list of the map's nodes
-nodes-below : {b a : List ℕ} {n l p : ℕ} → Usable b a n l p → {list : List ℕ} → Known n list → Below (N b) list
-nodes-below usable {list} known = subst (λ (k : ℕ). Below k list) (sym (usable .read .nodes)) (known-below known)
 
 -- ---- the nodes in the scratch
 
@@ -121,34 +108,10 @@ module _ {b a : List ℕ} {n l p : ℕ} (usable : Usable b a n l p) {c : ℕ} (t
 
 -- ---- a list that was taken in
 
--- what taking in a list writes is in the scratch
-pub taken-kept : (n l p : ℕ) {a m : List ℕ} → Within (scratchAt n l) (2 * n) a m → Scratched n l p a m
-taken-kept n l p kept = within-wider kept (scratchAt n l) (scratchSize n l p) (omega arith) (omega arith)
-
 module _ {b a : List ℕ} {n l p : ℕ} (usable : Usable b a n l p) {list : List ℕ} {c : ℕ} {m : List ℕ} (nodes : AllNodes n list (scratchAt n l) c m)
     (kept : Scratched n l p a m) where
   every : Every (KnownNode b) list
   every = every-below (N b) list (nodes-below usable (nodes .known))
-
-  -- 8, 9 and 10 pass
-  list-passed : passed ≡ decide (lineRules b list)
-  unfolding lineRules decide
-  list-passed =
-      sym (
-      ap (λ (r : Ruling). decide (r ∷ rule9 b list ∷ rule10 list ∷ [])) (nodes .not-empty)
-      ∙ ap (λ (r : Ruling). decide (r ∷ rule10 list ∷ [])) (rule9-is b list n (usable .read .nodes) ∙ nodes .none-unknown)
-      ∙ ap (λ (r : Ruling). decide (r ∷ [])) (nodes .none-repeated)
-      )
-
-  pub listed : Listed m (scratchAt n l) c n
-  listed =
-      record {
-        few = nodes .few;
-        known = λ i h.
-            subst (λ (x : ℕ). x < n) (ap (λ (xs : List ℕ). getD xs i 0) (sym (nodes .stands)) ∙ getD-part m (scratchAt n l) c i 0 h)
-            (nodes .known .entry i (omega (arith, nodes .count)));
-        once = subst Distinct (sym (nodes .stands)) (nodes .once);
-      }
 
   -- the intervals on the area with the list are those on the area before
   pub found-same : intervals b m (part m (scratchAt n l) c) ≡ intervals b a list
@@ -163,31 +126,6 @@ module _ {b a : List ℕ} {n l p : ℕ} (usable : Usable b a n l p) {list : List
         says =
             got .says
             ∙ ap (answer passed) (ap (lineCheck b m) (nodes .stands) ∙ sym (lineCheck-same (tables-still usable kept) (sound b (usable .links)) list every))
-            ∙ ap (λ (u : Ruling). answer u (lineCheck b a list)) list-passed;
+            ∙ ap (λ (u : Ruling). answer u (lineCheck b a list)) (list-passed usable nodes kept);
         kept = within-both kept (got .kept);
-      }
-
--- ---- a list that was not taken in
-
--- 8, 9 or 10 refuses
-pub not-taken : {r : Taken} {x : Refusal} → r ≡ Refused x → ruling (takenSaid r) ≢ passed
-unfolding ruling
-not-taken e f = no-refusal (sym f ∙ ap (λ (o : Taken). ruling (takenSaid o)) e)
-
-module _ {n : ℕ} {list a : List ℕ} {at : ℕ} {r : Taken} {m : List ℕ} (taken : TakenIn n list a at r m) where
-  pub all-taken : {c : ℕ} → r ≡ Nodes c → AllNodes n list at c m
-  all-taken e = were-nodes (subst (λ (x : Taken). TakenIn n list a at x m) e taken)
-
-module _ {b a : List ℕ} {n l p : ℕ} (usable : Usable b a n l p) {list : List ℕ} {r : Taken} {m : List ℕ}
-    (taken : TakenIn n list a (scratchAt n l) r m) where
-  pub list-refused : (x : Refusal) → ruled x ≡ ruling (takenSaid r) → {A : Type 0} (y : A) → Answered n l p a m (refusedBy x) (lineRules b list) y
-  unfolding lineRules listRuled answer
-  list-refused x e y =
-      record {
-        says =
-            ap (λ (u : Ruling). answer u y) (
-            e ∙ ap ruling (taken .said) ∙ ruling-answer (listRuled n list) (length list)
-            ∙ ap (λ (u : Ruling). decide (rule8 (length list) ∷ u ∷ rule10 list ∷ [])) (sym (rule9-is b list n (usable .read .nodes)))
-            );
-        kept = taken-kept n l p (taken .kept);
       }

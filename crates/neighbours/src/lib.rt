@@ -69,7 +69,7 @@ pub fn targets_start(b: &[u8], n: usize, area: &[u16], at: Places, v: usize) -> 
 }
 
 // The node that the i-th of those links leads to.
-pub fn target(b: &[u8], n: usize, area: &[u16], at: Places, i: usize) -> usize
+pub fn target_at(b: &[u8], n: usize, area: &[u16], at: Places, i: usize) -> usize
     requires { ⌜ Linked (now b) (now area) n at ⌝ }
     requires { ⌜ i < L (now b) ⌝ }
     ensures { λ r. ⌜ r ≡ outTarget (now (b .entry)) i ⌝ }
@@ -89,7 +89,7 @@ pub fn sources_start(b: &[u8], n: usize, area: &[u16], at: Places, v: usize) -> 
 }
 
 // The node that the i-th of those links comes from.
-pub fn source(b: &[u8], n: usize, area: &[u16], at: Places, i: usize) -> usize
+pub fn source_at(b: &[u8], n: usize, area: &[u16], at: Places, i: usize) -> usize
     requires { ⌜ Linked (now b) (now area) n at ⌝ }
     requires { ⌜ i < L (now b) ⌝ }
     ensures { λ r. ⌜ r ≡ inSource (now (b .entry)) i ⌝ }

@@ -1,1 +1,1 @@
-// The queue walk with marks and a queue of N words, and that it answers as 01's walk, which keeps repeats. No code.
+// Theorems on the path that a no shows: there is one exactly when the list is not convex, so the call agrees with both checks, and it keeps its promise. No code.

@@ -1,0 +1,9 @@
+pub mod Levels
+pub mod Neighbours
+pub mod Alike
+pub mod Bounds
+pub mod Ways
+pub mod Returns
+pub mod Judged
+pub mod Shortest
+pub mod Only
