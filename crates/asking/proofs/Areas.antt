@@ -1,4 +1,4 @@
--- The area from list to list: a check leaves one that stands for the prepared area as before, and the checks answer on it as there.
+-- The area from list to list: a call leaves one that stands for the prepared area as before, and the calls answer on it as there.
 -- Rests on trust_theory (a call keeps the words in use) and accepted_theory (they alone decide every call).
 use Prim.Native.Nat.{ℕ}
 use native.Mathlib.Omega.{arith}
@@ -8,15 +8,16 @@ use lib.ListN.{length, replicate, length-replicate}
 use lib.Seq.{length-sets}
 use Rattle.paper.specs.Area.{W, written, prepared, cleared}
 use Rattle.paper.specs.Intervals.{Reply}
+use Rattle.paper.specs.Path.{Shown}
 use Rattle.paper.specs.Refusals.{Ruling, passed, refusal, decide, onRefusal, Answer}
-use Rattle.paper.specs.Calls.{Left, untouched, unprepared, prepare, call, areaAfter, isNodeConvex, topoIsNodeConvex}
+use Rattle.paper.specs.Calls.{Left, LeftWith, untouched, unprepared, prepare, call, callInto, areaAfter, isNodeConvex, topoIsNodeConvex, showPath}
 use Rattle.accepted_theory.specs.SameOutcomes.{SameOutcomes}
 use Rattle.accepted_theory.proofs.InUse.{back, onward}
 use Rattle.accepted_theory.proofs.Calls.{same-outcomes}
 use Rattle.trust_theory.proofs.Kept.{same-in-use, trust-kept}
 use Rattle.asking.specs.Standing.{preparedArea, Standing}
 
--- the area that `ask` prepares has W words, also where the map is refused
+-- the prepared area has W words, also where the map is refused
 pub prepared-room : (b : List ℕ) → length (preparedArea b) ≡ W b
 unfolding preparedArea prepare onRefusal prepared cleared
 prepared-room b = go (decide (untouched b a)) (decide (unprepared b))
@@ -40,7 +41,7 @@ module _ {b a : List ℕ} (standing : Standing b a) where
         same = onward (back (same-in-use (standing .trusted))) (standing .same);
       }
 
-  -- what a check left, by the equation of its contract
+  -- what a call left, by the equation of its contract
   pub line-asked : (list : List ℕ) {m : List ℕ} {x : Answer (Reply × ℕ)} → record { answer = x; area = m } ≡ isNodeConvex b a list
       → (x ≡ isNodeConvex b (preparedArea b) list .answer) × Standing b m
   unfolding isNodeConvex call
@@ -55,4 +56,15 @@ module _ {b a : List ℕ} (standing : Standing b a) where
   order-asked list e = (
     ap (λ (l : Left Reply). l .answer) e ∙ as-prepared .orderCheck list,
     subst (Standing b) (sym (ap (λ (l : Left Reply). l .area) e)) still-standing,
+  )
+
+  pub path-asked : (list buffer : List ℕ) {m words : List ℕ} {x : Answer Shown} → record { answer = x; area = m; buffer = words } ≡ showPath b a list buffer
+      → (x ≡ showPath b (preparedArea b) list buffer .answer) × ((words ≡ showPath b (preparedArea b) list buffer .buffer) × Standing b m)
+  unfolding showPath callInto
+  path-asked list buffer e = (
+    ap (λ (l : LeftWith Shown). l .answer) e ∙ as-prepared .pathShown list buffer .0,
+    (
+      ap (λ (l : LeftWith Shown). l .buffer) e ∙ as-prepared .pathShown list buffer .1,
+      subst (Standing b) (sym (ap (λ (l : LeftWith Shown). l .area) e)) still-standing,
+    ),
   )

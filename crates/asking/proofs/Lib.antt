@@ -1,5 +1,6 @@
 pub mod Areas
 pub mod Texts
+pub mod Paths
 pub mod Prepares
 pub mod Starts
-pub mod Asks
+pub mod Lines

@@ -1,6 +1,6 @@
--- The line of output for a line of input: a bad text's refusal, or the answers of both checks about its list.
--- Rests on Areas, text's Printed and paper's `askList`.
-use Prim.Native.Nat.{ℕ, _-_, _≤_}
+-- The line of output for a line of input: a bad text's refusal, or what is said of its list; and what `ask` says.
+-- Rests on Areas, text's Printed and paper's `sayLine`.
+use Prim.Native.Nat.{ℕ, _-_, _≤_, _<_}
 use native.Mathlib.Nat.{sub-zero}
 use native.Mathlib.Omega.{arith}
 use mathlib.Core.Path.{_≡_, sym, ap, ap₂, _∙_}
@@ -11,14 +11,15 @@ use Rattle.lists.specs.Ascii.{ascii}
 use Rattle.paper.specs.Intervals.{Reply}
 use Rattle.paper.specs.Refusals.{Answer}
 use Rattle.paper.specs.Calls.{isNodeConvex, topoIsNodeConvex}
-use Rattle.paper.specs.Text.{newline, Read, list, bad, readList, showRefused, showLine, showOrder, askList}
+use Rattle.paper.specs.Text.{newline, Read, list, bad, readList, showRefused, showLine, showOrder, sayLine, askSays}
 use Rattle.text.specs.Printed.{Put}
 use Rattle.text.specs.Lists.{readSaid, howMany, ReadInto}
 use Rattle.text.specs.declared.reader.ListRead.{ListRead}
 use Rattle.text.specs.declared.reader.ListRead.the-variants.{Numbers, Bad}
-use Rattle.text.proofs.Printed.{refused-short, line-short, order-short}
+use Rattle.text.proofs.Printed.{put-then, refused-short, line-short, order-short}
 use Rattle.asking.specs.Standing.{preparedArea, Standing}
-use Rattle.asking.specs.Printed.{bothChecks, answersOf, Shown, Printed}
+use Rattle.asking.specs.Says.{Says}
+use Rattle.asking.specs.Printed.{bothChecks, Shown, Printed}
 use Rattle.asking.proofs.Areas.{line-asked, order-asked}
 
 -- a text put by another name
@@ -30,19 +31,21 @@ pub shown-as : {l m us vs : List ℕ} {e : ℕ} → us ≡ vs → Put l 0 vs m e
 shown-as {l} {m} {us} {vs} q p short =
     record { put = put-as q p; within = omega (arith, p .ends, ap length (p .stands), length-sets l 0 vs) }
 
+pub printed-as : {b a us vs l m : List ℕ} {e : ℕ} → us ≡ vs → Printed b a vs l m e → Printed b a us l m e
+printed-as q p = rw q p
+
 -- ---- how much room the lines take
 
 pub refused-line-short : (n p : ℕ) → length (showRefused n p ++ (newline ∷ [])) ≤ 50
 refused-line-short n p = omega (arith, refused-short n p, length-append (showRefused n p) (newline ∷ []))
 
-both-short : (x : Answer (Reply × ℕ)) (y : Answer Reply) → length (bothChecks x y) ≤ 111
+pub both-short : (x : Answer (Reply × ℕ)) (y : Answer Reply) → length (bothChecks x y) ≤ 110
 unfolding bothChecks
 both-short x y =
     omega (
       arith,
       line-short x,
       order-short y,
-      length-append (ascii "line " ++ showLine x ++ ascii " order " ++ showOrder y) (newline ∷ []),
       length-append (ascii "line " ++ showLine x ++ ascii " order ") (showOrder y),
       length-append (ascii "line " ++ showLine x) (ascii " order "),
       length-append (ascii "line ") (showLine x),
@@ -55,30 +58,39 @@ pub both-asked : (b a ns : List ℕ) {m o before after : List ℕ} {x : Answer (
     → record { answer = x; area = m } ≡ isNodeConvex b a ns
     → record { answer = y; area = o } ≡ topoIsNodeConvex b m ns
     → Put before 0 (bothChecks x y) after end
-    → 111 ≤ length before
-    → Printed b o (answersOf b ns) before after end
-unfolding answersOf
+    → 110 ≤ length before
+    → Printed b o (askSays b (preparedArea b) ns) before after end
+unfolding askSays bothChecks
 both-asked b a ns {x = x} {y = y} standing line order put room =
     let first = line-asked standing ns line in
     let second = order-asked (first .1) ns order in
     record { shown = shown-as (sym (ap₂ bothChecks (first .0) (second .0))) put (omega (arith, both-short x y)); standing = second .1 }
 
-module _ {b a before after : List ℕ} (i : ℕ) {end : ℕ} where
-  -- "A bad text line prints `refused 15` and its line number from 0, and the program goes on."
-  pub bad-text : {r : Read} → Standing b a → bad ≡ r → Put before 0 (showRefused 15 i ++ (newline ∷ [])) after end → 111 ≤ length before
-      → Printed b a (askList b (preparedArea b) i r) before after end
-  unfolding askList
-  bad-text standing e put room =
-      record { shown = shown-as (sym (ap (askList b (preparedArea b) i) e)) put (omega (arith, refused-line-short 15 i)); standing = standing }
+-- the newline after what is said of a list
+pub then-newline : {b a text before middle after : List ℕ} {end last : ℕ} → Printed b a text before middle end → Put middle end (newline ∷ []) after last → end < length middle
+    → Printed b a (text ++ (newline ∷ [])) before after last
+then-newline {middle = middle} {end = end} printed put room =
+    record {
+      shown =
+          record {
+            put = put-then (printed .shown .put) put;
+            within = omega (arith, put .ends, ap length (put .stands), length-sets middle end (newline ∷ []));
+          };
+      standing = printed .standing;
+    }
 
-  pub good-text : {ns : List ℕ} {r : Read} → list ns ≡ r → Printed b a (answersOf b ns) before after end
-      → Printed b a (askList b (preparedArea b) i r) before after end
-  unfolding askList answersOf bothChecks
-  good-text e printed =
-      record {
-        shown = record { put = put-as (sym (ap (askList b (preparedArea b) i) e)) (printed .shown .put); within = printed .shown .within };
-        standing = printed .standing;
-      }
+module _ (says : Says) {b a before after : List ℕ} (i : ℕ) {end : ℕ} where
+  -- "A bad text line prints `refused 15` and its line number from 0, and the program goes on."
+  pub bad-text : {r : Read} → Standing b a → bad ≡ r → Put before 0 (showRefused 15 i ++ (newline ∷ [])) after end → 50 ≤ length before
+      → Printed b a (sayLine says b (preparedArea b) i r) before after end
+  unfolding sayLine
+  bad-text standing e put room =
+      record { shown = shown-as (sym (ap (sayLine says b (preparedArea b) i) e)) put (omega (arith, refused-line-short 15 i)); standing = standing }
+
+  pub good-text : {ns : List ℕ} {r : Read} → list ns ≡ r → Printed b a (says b (preparedArea b) ns ++ (newline ∷ [])) before after end
+      → Printed b a (sayLine says b (preparedArea b) i r) before after end
+  unfolding sayLine
+  good-text e printed = printed-as (sym (ap (sayLine says b (preparedArea b) i) e)) printed
 
 -- what the reader answered of the line
 

@@ -1,4 +1,4 @@
--- How the output begins: with all of it, or with its first line.
+-- How a program's output begins: with all of it, or with its first line.
 -- Rests on paper's Text, Printed and Standing.
 use Prim.Native.Nat.{ℕ, _≤_}
 use mathlib.Core.Path.{_≡_}
@@ -6,8 +6,9 @@ use mathlib.Core.List.{List, [], _∷_, _++_}
 use lib.ListN.{length}
 use Rattle.paper.specs.Lines.{tables}
 use Rattle.paper.specs.Refusals.{Answer, refused, answered}
-use Rattle.paper.specs.Text.{newline, linesIn, showRefused, askLists, firstOutput, ask}
+use Rattle.paper.specs.Text.{newline, linesIn, showRefused, sayLines, firstOutput, output}
 use Rattle.asking.specs.Standing.{preparedArea, Standing}
+use Rattle.asking.specs.Says.{Says}
 use Rattle.asking.specs.Printed.{Shown}
 use Rattle.asking.specs.declared.beginning.Beginning.{Beginning}
 use Rattle.asking.specs.declared.beginning.Beginning.the-variants.{Whole, First}
@@ -17,13 +18,15 @@ unfoldable pub refusedLine : Answer ℕ → List ℕ
 refusedLine (refused n p) = showRefused n p ++ (newline ∷ [])
 refusedLine (answered k) = []
 
--- the first line is put, and the lists are what is left of the output
+-- the first line is put, and the lists are what is left of the output, whatever a program says of them
 pub record Opened (b input before after area : List ℕ) (end : ℕ) : Type 0 where
   pub shown : Shown (firstOutput b (tables b .count)) before after end
-  pub rest : ask b input ≡ firstOutput b (tables b .count) ++ askLists b (preparedArea b) 0 (linesIn input)
+  pub rest : (says : Says)
+      → output says b input ≡ firstOutput b (tables b .count) ++ sayLines says b (preparedArea b) 0 (linesIn input)
   pub short : length input ≤ 60000
   pub standing : Standing b area
 
 pub data Begun (b input before after area : List ℕ) : Beginning → Type 0 where
-  whole : {end : ℕ} → Shown (ask b input) before after end → Begun b input before after area (Whole end)
+  whole : {end : ℕ} → ((says : Says) → Shown (output says b input) before after end)
+      → Begun b input before after area (Whole end)
   first : {end : ℕ} → Opened b input before after area end → Begun b input before after area (First end)

@@ -1,4 +1,4 @@
--- What the program keeps of its area from list to list: longer than the one that paper's `ask` prepares, and with the same words in use.
+-- What a program keeps of its area from list to list: longer than the one that paper's `output` prepares, and with the same words in use.
 -- Rests on paper's Calls and Promise, and on accepted_theory (what the words in use are).
 use Prim.Native.Nat.{ℕ}
 use mathlib.Core.List.{List}
@@ -8,7 +8,7 @@ use Rattle.paper.specs.Calls.{prepare}
 use Rattle.paper.specs.Promise.{Trusted}
 use Rattle.accepted_theory.specs.InUse.{SameInUse}
 
--- the area of W words in which `ask` asks every list
+-- the area of W words in which every list is asked
 unfoldable pub preparedArea : List ℕ → List ℕ
 preparedArea b = prepare b (replicate (W b) 0) .area
 

@@ -1,10 +1,13 @@
-// The program `ask`: reads the step map `steps.pgt` and lists on standard input, and says of each list what the two checks answer.
+// The programs `ask` and `why`: each reads the step map `steps.pgt` and lists on standard input, and says of each list what it is asked for.
 // What is printed is proved of the functions on slices that put each line: `begin` puts the first line or the one line that is all, and turn i of
-// `next_list` the one for line i of the input; that these lines, in order, are paper's `ask` is the law `output` (proofs/Asks). No contract can
-// say which bytes a program reads and writes: `run` reads both files once, and writes each line as it is made.
+// `next_list` the one for line i of the input; that these lines, in order, are all of paper's output is the law `output-is`, and that this is `ask` or
+// `why` say `ask-is` and `why-is` (proofs/Lines). No contract can say which bytes a program reads and writes: `run` reads both files once, and writes
+// each line as it is made.
 pub mod beginning;
+pub mod checks;
 pub mod replies;
 pub mod turns;
+pub mod ways;
 
 use beginning::Beginning;
 use beginning::begin;
@@ -17,6 +20,12 @@ ghost use lib.ListN.{length};
 ghost use Rattle.io.specs.Counts.{Counts};
 ghost use Rattle.paper.specs.Text.{linesIn};
 ghost use Rattle.asking.specs.Standing.{Standing};
+
+// What is asked of every list: both checks, or the path that a no shows.
+pub enum Program {
+    Ask,
+    Why,
+}
 
 // Room for one byte more than a map may have, so that a longer one is seen.
 fn map_room() -> [u8; 65001]
@@ -46,11 +55,11 @@ fn list_room() -> [u16; 30001]
     [0u16; 30001]
 }
 
-// Room for the longest line of output, which takes 111 bytes.
-fn line_room() -> [u8; 128]
-    ensures { λ r. ⌜ length r ≡ 128 ⌝ }
+// Room for the longest line of output: a path of 514 steps takes 3,089 bytes.
+fn line_room() -> [u8; 3200]
+    ensures { λ r. ⌜ length r ≡ 3200 ⌝ }
 {
-    [0u8; 128]
+    [0u8; 3200]
 }
 
 // Reads the map's file; one that is missing counts as no bytes.
@@ -66,18 +75,25 @@ fn read_steps(name: &[u8], room: &mut [u8]) -> usize
     count
 }
 
-// Asks the lists of the input one after the other, writes each one's line as it is made, and answers how many there were. Turn i asks line i.
-fn ask_lists(map: &[u8], input: &[u8], area: &mut [u16], list: &mut [u16], out: &mut [u8]) -> usize
+// Answers the lists of the input one after the other, writes each one's line as it is made, and answers how many there were. Turn i answers line i.
+fn answer_lists(
+    program: Program,
+    map: &[u8],
+    input: &[u8],
+    area: &mut [u16],
+    list: &mut [u16],
+    out: &mut [u8],
+) -> usize
     requires { ⌜ Standing (now map) (now area) ⌝ }
     requires { ⌜ length (now input) ≤ 60000 ⌝ }
     requires { ⌜ 30001 ≤ length (now list) ⌝ }
-    requires { ⌜ 111 ≤ length (now out) ⌝ }
+    requires { ⌜ 3200 ≤ length (now out) ⌝ }
     ensures { λ r. ⌜ r ≡ length (linesIn (now (input .entry))) ⌝ }
 {
     let mut at = 0;
     let mut i = 0;
     while at < input.len() {
-        let turn = next_list(map, input, area, at, i, list, out);
+        let turn = next_list(program, map, input, area, at, i, list, out);
         let end = turn.printed;
         io::write_all(STDOUT_FILENO, &out[0..end]);
         at = turn.next;
@@ -86,8 +102,8 @@ fn ask_lists(map: &[u8], input: &[u8], area: &mut [u16], list: &mut [u16], out: 
     i
 }
 
-// Writes what `begin` puts, and asks the lists where that is only the first line.
-fn ask(map: &[u8], input: &[u8]) {
+// Writes what `begin` puts, and answers the lists where that is only the first line.
+fn answer(program: Program, map: &[u8], input: &[u8]) {
     let mut area = area_room();
     let mut out = line_room();
     let begun = begin(map, input, &mut area, &mut out);
@@ -98,22 +114,22 @@ fn ask(map: &[u8], input: &[u8]) {
         Beginning::First(end) => {
             io::write_all(STDOUT_FILENO, &out[0..end]);
             let mut list = list_room();
-            ask_lists(map, input, &mut area, &mut list, &mut out);
+            answer_lists(program, map, input, &mut area, &mut list, &mut out);
         }
     }
 }
 
-// The whole program on a map's file and an open input. A map or an input that fills its room is too long, whatever comes after (the law
+// A whole program on a map's file and an open input. A map or an input that fills its room is too long, whatever comes after (the law
 // `enough-read`, proofs/Starts).
-pub fn run_on(name: &[u8], from: i32) {
+pub fn run_on(program: Program, name: &[u8], from: i32) {
     let mut map = map_room();
     let size = read_steps(name, &mut map);
     let mut input = input_room();
     let count = io::read_full(from, &mut input);
-    ask(&map[..size], &input[..count]);
+    answer(program, &map[..size], &input[..count]);
 }
 
-// The program `ask`.
-pub fn run() {
-    run_on(b"steps.pgt", STDIN_FILENO);
+// A program as it is called.
+pub fn run(program: Program) {
+    run_on(program, b"steps.pgt", STDIN_FILENO);
 }

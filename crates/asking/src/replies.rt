@@ -1,75 +1,51 @@
-// The line of output for one line of input: both checks' answers, or that its text is bad.
-use convex::line_convex_checker::is_node_convex as line_check;
-use convex::topo_convex_checker::is_node_convex as order_check;
-use line_checker::line_check::LineAnswer;
-use refusals::number;
-use refusals::place;
-use text::printer::put_checked;
-use text::printer::put_refused;
+// The line of output for one line of input: what the program says of its list, or that its text is bad.
+use super::Program;
+use super::checks::say_checks;
+use super::ways::say_path;
 use text::printer::put_refused_line;
-use text::printer::put_reply;
 use text::printer::put_text;
 use text::reader::ListRead;
 use text::reader::read_list;
-use topo_checker::TopoAnswer;
-ghost use Prim.Native.Nat.{_+_, _/_, _≤_};
+ghost use Prim.Native.Nat.{_+_, _/_, _≤_, _<_};
+ghost use mathlib.Core.List.{[], _∷_, _++_};
 ghost use lib.ListN.{length};
-ghost use Rattle.paper.specs.Text.{askList, readList, showLine, showOrder};
-ghost use Rattle.text.specs.Printed.{Put};
-ghost use Rattle.line_checker.specs.Said.{lineSaid};
-ghost use Rattle.topo_checker.specs.Said.{topoSaid};
+ghost use Rattle.paper.specs.Text.{newline, readList, sayLine};
 ghost use Rattle.asking.specs.Standing.{Standing, preparedArea};
-ghost use Rattle.asking.specs.Printed.{Printed, answersOf, bothChecks};
+ghost use Rattle.asking.specs.Printed.{Printed};
+ghost use Rattle.asking.specs.Says.{saysOf};
 
-// Puts the line check's answer: its reply with the count, or its refusal.
-fn put_line_answer(out: &mut [u8], at: usize, answer: LineAnswer) -> usize
-    requires { ⌜ at + 49 ≤ length (now out) ⌝ }
-    ensures { λ r. ⌜ Put (now (out .entry)) at (showLine (lineSaid answer)) (now (out .exit)) r ⌝ }
+// Puts what the program says of a list, and leaves room for a newline.
+fn say(program: Program, map: &[u8], area: &mut [u16], list: &[u16], out: &mut [u8]) -> usize
+    requires { ⌜ Standing (now map) (now area) ⌝ }
+    requires { ⌜ 3200 ≤ length (now out) ⌝ }
+    ensures { λ r. ⌜ Printed (now (map .entry)) (now (area .exit)) (saysOf program (now (map .entry)) (preparedArea (now (map .entry))) (now (list .entry))) (now (out .entry)) (now (out .exit)) r ⌝ }
+    ensures { λ r. ⌜ r < 3200 ⌝ }
 {
-    match answer {
-        LineAnswer::Yes(count) => put_checked(out, at, true, count),
-        LineAnswer::No(count) => put_checked(out, at, false, count),
-        LineAnswer::Refused(x) => put_refused(out, at, number(x), place(x)),
+    match program {
+        Program::Ask => say_checks(map, area, list, out),
+        Program::Why => say_path(map, area, list, out),
     }
 }
 
-// Puts the order check's answer: its reply or its refusal.
-fn put_order_answer(out: &mut [u8], at: usize, answer: TopoAnswer) -> usize
-    requires { ⌜ at + 49 ≤ length (now out) ⌝ }
-    ensures { λ r. ⌜ Put (now (out .entry)) at (showOrder (topoSaid answer)) (now (out .exit)) r ⌝ }
+// Puts the line of a list.
+fn answer_list(
+    program: Program,
+    map: &[u8],
+    area: &mut [u16],
+    list: &[u16],
+    out: &mut [u8],
+) -> usize
+    requires { ⌜ Standing (now map) (now area) ⌝ }
+    requires { ⌜ 3200 ≤ length (now out) ⌝ }
+    ensures { λ r. ⌜ Printed (now (map .entry)) (now (area .exit)) (saysOf program (now (map .entry)) (preparedArea (now (map .entry))) (now (list .entry)) ++ (newline ∷ [])) (now (out .entry)) (now (out .exit)) r ⌝ }
 {
-    match answer {
-        TopoAnswer::Yes => put_reply(out, at, true),
-        TopoAnswer::No => put_reply(out, at, false),
-        TopoAnswer::Refused(x) => put_refused(out, at, number(x), place(x)),
-    }
-}
-
-// Puts the line of a list: the line check, then the order check.
-fn put_answers(out: &mut [u8], line: LineAnswer, order: TopoAnswer) -> usize
-    requires { ⌜ 111 ≤ length (now out) ⌝ }
-    ensures { λ r. ⌜ Put (now (out .entry)) 0 (bothChecks (lineSaid line) (topoSaid order)) (now (out .exit)) r ⌝ }
-{
-    let checked = put_text(out, 0, b"line ");
-    let between = put_line_answer(out, checked, line);
-    let ordered = put_text(out, between, b" order ");
-    let newline = put_order_answer(out, ordered, order);
+    let newline = say(program, map, area, list, out);
     put_text(out, newline, b"\n")
 }
 
-// Asks both checks about a list, in the area that the checks before left.
-fn answer_list(map: &[u8], area: &mut [u16], list: &[u16], out: &mut [u8]) -> usize
-    requires { ⌜ Standing (now map) (now area) ⌝ }
-    requires { ⌜ 111 ≤ length (now out) ⌝ }
-    ensures { λ r. ⌜ Printed (now (map .entry)) (now (area .exit)) (answersOf (now (map .entry)) (now (list .entry))) (now (out .entry)) (now (out .exit)) r ⌝ }
-{
-    let line = line_check(map, area, list);
-    let order = order_check(map, area, list);
-    put_answers(out, line, order)
-}
-
-// Line i of the input: its list's answers, or refusal 15 at i where it is no list.
+// Line i of the input: what is said of its list, or refusal 15 at i where it is no list.
 pub fn answer_text(
+    program: Program,
     map: &[u8],
     area: &mut [u16],
     text: &[u8],
@@ -79,12 +55,12 @@ pub fn answer_text(
 ) -> usize
     requires { ⌜ Standing (now map) (now area) ⌝ }
     requires { ⌜ length (now text) / 2 + 1 ≤ length (now list) ⌝ }
-    requires { ⌜ 111 ≤ length (now out) ⌝ }
-    ensures { λ r. ⌜ Printed (now (map .entry)) (now (area .exit)) (askList (now (map .entry)) (preparedArea (now (map .entry))) i (readList (now (text .entry)))) (now (out .entry)) (now (out .exit)) r ⌝ }
+    requires { ⌜ 3200 ≤ length (now out) ⌝ }
+    ensures { λ r. ⌜ Printed (now (map .entry)) (now (area .exit)) (sayLine (saysOf program) (now (map .entry)) (preparedArea (now (map .entry))) i (readList (now (text .entry)))) (now (out .entry)) (now (out .exit)) r ⌝ }
 {
     let read = read_list(text, list);
     let ListRead::Numbers(count) = read else {
         return put_refused_line(out, 0, 15, i);
     };
-    answer_list(map, area, &list[0..count], out)
+    answer_list(program, map, area, &list[0..count], out)
 }

@@ -1,0 +1,6 @@
+pub mod Searching
+pub mod Written
+pub mod Told
+pub mod Answers
+pub mod Listing
+pub mod Apart

@@ -51,11 +51,12 @@ pub fn show_listed(
     let Closing::At(d, end) = closing else {
         return PathAnswer::NoPath;
     };
-    if buffer.len() < d + 2 {
-        return PathAnswer::Refused(Refusal::TooLong(d + 2));
+    let steps = d + 2;
+    if buffer.len() < steps {
+        return PathAnswer::Refused(Refusal::TooLong(steps));
     }
     write_path(b, n, area, queue, at, end, d + 1, buffer);
-    PathAnswer::Path(d + 2)
+    PathAnswer::Path(steps)
 }
 
 // The path of a list: refusals 8, 9, 10, then 11.

@@ -1,7 +1,7 @@
 // The path written out from its end.
 use distances::queue::at_distance;
 use neighbours::Places;
-use neighbours::source;
+use neighbours::source_at;
 use neighbours::sources_start;
 ghost use mathlib.Core.Path.{_≡_};
 ghost use mathlib.Core.Bool.{true};
@@ -42,7 +42,7 @@ fn step_before(
     let end = sources_start(b, n, area, at, v + 1);
     let mut least = n;
     while i < end {
-        let u = source(b, n, area, at, i);
+        let u = source_at(b, n, area, at, i);
         if at_distance(area, queue, n, u, d) {
             least = smaller(least, u);
         }

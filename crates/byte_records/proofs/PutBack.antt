@@ -15,7 +15,7 @@ use Rattle.refusals.proofs.Rulings.{no-refusal}
 use Rattle.tables.specs.Answered.{AnsweredInto, AnsweredBytes}
 use Rattle.words.proofs.RoundTrip.{Below, read-and-put}
 use Rattle.bytes_theory.proofs.Buffers.{put-result}
-use Rattle.line_checker.proofs.Into.{too-long}
+use Rattle.intervals.proofs.Into.{too-long}
 
 -- 11 passes: the result fits
 pub fits-11 : (room many : ℕ) → passed ≡ decide (rule11 room many ∷ []) → many ≤ room

@@ -10,3 +10,4 @@ pub mod Records
 pub mod Whole
 pub mod Said
 pub mod Taken
+pub mod Into

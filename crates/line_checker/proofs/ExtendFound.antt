@@ -26,7 +26,8 @@ use Rattle.tables.specs.Usable.{Usable}
 use Rattle.tables.proofs.Within.{within-none}
 use Rattle.tables.proofs.Usable.{tables-still}
 use Rattle.line_checker.proofs.Records.{Wrote, wrote-some, wrote-none, begun-long}
-use Rattle.line_checker.proofs.Into.{Into, into-refused, into-answered, none-into, long-into, fit-into}
+use Rattle.intervals.proofs.Into.{Into, into-refused, into-answered}
+use Rattle.line_checker.proofs.Into.{none-into, long-into, fit-into}
 use Rattle.line_checker.proofs.RecordCalls.{into-after, known-node, unknown-node, records-refused, records-passed-both}
 
 -- 11 of some records and their buffer

@@ -28,7 +28,8 @@ use Rattle.tables.specs.Answered.{AnsweredInto}
 use Rattle.tables.specs.Usable.{Usable, Scratched, scratchAt}
 use Rattle.tables.proofs.Within.{within-both}
 use Rattle.line_checker.proofs.Records.{Wrote, wrote-some, wrote-none, begun-long}
-use Rattle.line_checker.proofs.Into.{Into, into-refused, into-passed, into-answered, none-into, long-into, fit-into, short-enough}
+use Rattle.intervals.proofs.Into.{Into, into-refused, into-passed, into-answered, short-enough}
+use Rattle.line_checker.proofs.Into.{none-into, long-into, fit-into}
 use Rattle.line_checker.proofs.RecordCalls.{into-after, some-given}
 use Rattle.line_checker.proofs.LineCheck.{found-same}
 

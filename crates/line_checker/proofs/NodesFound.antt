@@ -16,7 +16,7 @@ use Rattle.tables.specs.Answered.{AnsweredInto}
 use Rattle.tables.specs.Usable.{Usable}
 use Rattle.tables.proofs.Within.{within-none}
 use Rattle.tables.proofs.Usable.{tables-still}
-use Rattle.line_checker.proofs.Into.{Into, into-refused, into-passed, into-answered, too-long, short-enough}
+use Rattle.intervals.proofs.Into.{Into, into-refused, into-passed, into-answered, too-long, short-enough}
 use Rattle.line_checker.proofs.Records.{begun-long}
 use Rattle.line_checker.proofs.RecordCalls.{into-after, records-passed-both}
 

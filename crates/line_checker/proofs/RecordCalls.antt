@@ -49,7 +49,7 @@ use Rattle.tables.proofs.Within.{within-none, within-both}
 use Rattle.tables.proofs.Usable.{tables-still}
 use Rattle.walk.specs.Walks.{Walks, walkedSaid}
 use Rattle.walk.specs.declared.turns.Walked.{Walked}
-use Rattle.line_checker.proofs.Into.{Into}
+use Rattle.intervals.proofs.Into.{Into}
 
 -- ---- rules that pass before others
 

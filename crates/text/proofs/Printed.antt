@@ -6,11 +6,12 @@ use native.Mathlib.Omega.{arith}
 use borrow.Author.Tests.{lt-ltb, le-ltb}
 use mathlib.Core.Path.{_≡_, refl, sym, ap, _∙_}
 use mathlib.Core.Bool.{Bool, true, false, cond}
-use mathlib.Core.List.{List, [], _∷_, _++_, append-assoc}
+use mathlib.Core.List.{List, [], _∷_, _++_, append-nil, append-assoc, flatMap}
 use lib.ListN.{length, getD, take, set, length-append}
 use lib.Seq.{sets, take-suc, length-take-le}
 use lib.Dec.{ltb}
 use Rattle.lists.proofs.Sections.{sets-next}
+use Rattle.lists.proofs.Upto.{flatMap-append}
 use Rattle.lists.specs.Ascii.{ascii}
 use Rattle.paper.specs.Map.{N, L}
 use Rattle.paper.specs.Intervals.{Reply, Yes, No}
@@ -39,6 +40,20 @@ byte-more out₀ at text i h e =
     sets-next out₀ at (take i text) (getD text i 0 ∷ []) e (length-take-le i text (omega arith))
     ∙ ap (sets out₀ at) (sym (take-suc text i 0 h) ∙ ap (λ (k : ℕ). take k text) (sym (add-one i)))
 
+-- ---- number by number: each has its text
+
+pub text-more : (f : ℕ → List ℕ) (ns : List ℕ) (i : ℕ) {l m k : List ℕ} {at e end : ℕ} → i < length ns → Put l at (flatMap f (take i ns)) m e → Put m e (f (getD ns i 0)) k end
+    → Put l at (flatMap f (take (i + 1) ns)) k end
+unfolding flatMap
+text-more f ns i h p q = rw one-more (put-then p q)
+  where
+    one-more : flatMap f (take (i + 1) ns) ≡ flatMap f (take i ns) ++ f (getD ns i 0)
+    one-more =
+        ap (λ (n : ℕ). flatMap f (take n ns)) (add-one i)
+        ∙ ap (flatMap f) (take-suc ns i 0 h)
+        ∙ flatMap-append f (take i ns) (getD ns i 0 ∷ [])
+        ∙ ap (λ (l : List ℕ). flatMap f (take i ns) ++ l) (append-nil (f (getD ns i 0)))
+
 -- ---- a number in decimal
 
 decimalIn-short : (d n : ℕ) → length (decimalIn d n) ≤ suc d
@@ -59,6 +74,23 @@ decimal-short n = decimalIn-short 19 n
 tens : ℕ → ℕ
 tens zero = 10
 tens (suc d) = 10 * tens d
+
+few-digits : (d e n : ℕ) → n < tens d → length (decimalIn e n) ≤ suc d
+unfolding decimalIn tens
+few-digits d zero n h = omega arith
+few-digits zero (suc e) n h =
+    omega (arith, ap (λ (t : Bool). length (cond t ((48 + n) ∷ []) (decimalIn e (n / 10) ++ ((48 + n % 10) ∷ [])))) (lt-ltb n 10 h))
+few-digits (suc d) (suc e) n h = go (ltb n 10) (few-digits d e (n / 10) (omega arith))
+  where
+    go : (t : Bool) → length (decimalIn e (n / 10)) ≤ suc d
+        → length (cond t ((48 + n) ∷ []) (decimalIn e (n / 10) ++ ((48 + n % 10) ∷ []))) ≤ suc (suc d)
+    go true h = omega arith
+    go false h = omega (arith, length-append (decimalIn e (n / 10)) ((48 + n % 10) ∷ []))
+
+-- a word takes five digits at most
+pub word-short : (n : ℕ) → n < 65536 → length (decimal n) ≤ 5
+unfolding decimal tens
+word-short n h = few-digits 4 19 n (omega arith)
 
 -- room for one digit more changes nothing where there is room already
 room-more : (d n : ℕ) → n < tens d → decimalIn (suc d) n ≡ decimalIn d n

@@ -1,4 +1,4 @@
-// The text of the program `ask`: the lines and numbers of its input read, its output printed into lent bytes.
+// The text of the programs `ask` and `why`: the lines and numbers of their input read, their output printed into lent bytes.
 pub mod parts;
 pub mod printer;
 pub mod reader;

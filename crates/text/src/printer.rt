@@ -1,9 +1,11 @@
 // The printer: texts, numbers and the program's lines, put into lent bytes. Each function answers where its text ends.
-ghost use Prim.Native.Nat.{_+_, _≤_};
+use words::field::wide;
+ghost use Prim.Native.Nat.{_+_, _*_, _≤_};
 ghost use mathlib.Core.List.{[], _∷_, _++_};
 ghost use lib.ListN.{length};
 ghost use Rattle.paper.specs.Refusals.{answered};
-ghost use Rattle.paper.specs.Text.{newline, decimal, showReply, showRefused, showLine};
+ghost use Rattle.paper.specs.Path.{path};
+ghost use Rattle.paper.specs.Text.{newline, decimal, showReply, showRefused, showLine, showWay};
 ghost use Rattle.text.specs.Printed.{Put, replyOf, firstLine};
 
 // Puts a text.
@@ -89,4 +91,19 @@ pub fn put_first(out: &mut [u8], at: usize, n: usize, l: usize, k: usize) -> usi
     let lines = put_numbered(out, links, b" links ", l);
     let newline = put_numbered(out, lines, b" lines ", k);
     put_text(out, newline, b"\n")
+}
+
+// Puts a path as its steps, each after a space: none takes more than 5 digits.
+pub fn put_path(out: &mut [u8], at: usize, steps: &[u16]) -> usize
+    requires { ⌜ at + 6 * length (now steps) + 19 ≤ length (now out) ⌝ }
+    ensures { λ r. ⌜ Put (now (out .entry)) at (showWay (answered (path (now (steps .entry))))) (now (out .exit)) r ⌝ }
+    ensures { λ r. ⌜ r ≤ at + 6 * length (now (steps .entry)) + 4 ⌝ }
+{
+    let mut end = put_text(out, at, b"path");
+    let mut i = 0;
+    while i < steps.len() {
+        end = put_numbered(out, end, b" ", wide(steps[i]));
+        i += 1;
+    }
+    end
 }

@@ -10,7 +10,7 @@ use Rattle.paper.specs.Refusals.{Ruling, rule11}
 use Rattle.paper.specs.Words.{wordsFrom}
 use Rattle.refusals.proofs.Rulings.{no-refusal}
 use Rattle.tables.proofs.Within.{within-none}
-use Rattle.line_checker.proofs.Into.{into-answered, into-refused}
+use Rattle.intervals.proofs.Into.{into-answered, into-refused}
 use Rattle.line_checker.proofs.RecordCalls.{records-refused}
 use Rattle.byte_records.proofs.Crossed.{beyond-bytes}
 use Rattle.byte_records.proofs.InRoom.{read-all}

@@ -1,4 +1,4 @@
--- `asking::beginning::begin` meets its contract: the map's length, preparing's answer and the input's length in `ask`'s own order.
+-- `asking::beginning::begin` meets its contract: the map's length, preparing's answer and the input's length in the output's own order.
 -- Rests on Starts.
 use native.Mathlib.Omega.{arith}
 use Rattle.convex.specs.Said.{preparedSaid}
@@ -20,8 +20,8 @@ returns c =
     let put = c .before .before in
     let then = put .before .before in
     let given = then .before .before .before .before .before .args in
-    whole
-    (shown-as (over-map (given .map .now) (given .input .now) (then .if1 .taken)) (put .put-refused-line .ensures)
+    whole λ says.
+    (shown-as (over-map says (given .map .now) (given .input .now) (then .if1 .taken)) (put .put-refused-line .ensures)
     (omega (arith, refused-line-short 2 0)))
 
 prepare-requires : tie.Need-prepare-requires
@@ -48,10 +48,10 @@ returns-2 c =
     let matched = put .before .before .before in
     let made = matched .before .before .before in
     let start = made .before .before .before .before .before .before .before in
-    whole
+    whole λ says.
     (shown-as
     (refused-map (start .args .map .now) (start .args .input .now) (start .args .area .now) (made .prepare .result) (made .before .before .if1 .left) (start .pre .0)
-    (made .prepare .ensures) (matched .match .keys2))
+    (made .prepare .ensures) says (matched .match .keys2))
     (put .put-unprepared .ensures)
     (omega (arith, refused-map-short (preparedSaid (made .prepare .result)))))
 
@@ -71,10 +71,10 @@ returns-3 c =
     let told = then .before .before in
     let made = told .before .before .before .before in
     let start = made .before .before .before .before .before .before .before in
-    whole
+    whole λ says.
     (shown-as
     (long-input (start .args .map .now) (start .args .input .now) (start .args .area .now) (made .prepare .result) (made .before .before .if1 .left) (start .pre .0)
-    (made .prepare .ensures) (told .prepared .given .1) (then .if2 .taken))
+    (made .prepare .ensures) (told .prepared .given .1) says (then .if2 .taken))
     (put .put-refused-line2 .ensures)
     (omega (arith, refused-line-short 15 0)))
 

@@ -1,18 +1,19 @@
--- `asking::replies::answer_list` meets its contract: both checks answer as in the prepared area, and leave one that stands for it.
+-- `asking::replies::answer_list` meets its contract: what is said of the list, and a newline after it.
 -- Rests on Texts.
-use Rattle.asking.proofs.Texts.{both-asked}
+use native.Mathlib.Omega.{arith}
+use Rattle.asking.proofs.Texts.{then-newline}
 use borrow.Author.Needs.{needs}
 use Rattle.asking.proofs.replies.answer_list.Statement.{statement}
 use Rattle.asking.proofs.replies.answer_list.Tie as tie
 
-is-node-convex-requires : tie.Need-is-node-convex-requires
-is-node-convex-requires c κs = search needs
+say-requires : tie.Need-say-requires
+say-requires c κs = search needs
 
-is-node-convex-requires-2 : tie.Need-is-node-convex-requires-2
-is-node-convex-requires-2 c κs = search needs
+slice-aggregate-put-text : tie.Need-slice-aggregate-put-text
+slice-aggregate-put-text c = search needs
 
-put-answers-requires : tie.Need-put-answers-requires
-put-answers-requires c κs = search needs
+put-text-requires : tie.Need-put-text-requires
+put-text-requires c κs = search needs
 
 same-length : tie.Need-same-length
 same-length c = search needs
@@ -23,19 +24,16 @@ same-length-2 c = search needs
 returns : tie.Need-returns
 returns c =
     let put = c .before .before in
-    let second = put .before .before .before .before in
-    let first = second .before .before .before .before in
-    let start = first .before .before .before .before .before .before in
-    both-asked (start .args .map .now) (start .args .area .now) (start .args .list .now) (start .pre .0) (first .is-node-convex .ensures .0)
-    (second .is-node-convex2 .ensures .0) (put .put-answers .ensures) (start .pre .1)
+    let said = put .before .before .before .before .before .before .before in
+    then-newline (said .say .ensures .0) (put .put-text .ensures) (omega (arith, said .say .ensures .1))
 
 pub answer-list-spec : {M : Type 1} → statement M
 answer-list-spec =
     tie.close
     (tie.spec
-    is-node-convex-requires
-    is-node-convex-requires-2
-    put-answers-requires
+    say-requires
+    slice-aggregate-put-text
+    put-text-requires
     same-length
     same-length-2
     returns)

@@ -1,6 +1,7 @@
--- `asking::replies::answer_text` meets its contract: a bad text's refusal, or the answers about the list that was read.
+-- `asking::replies::answer_text` meets its contract: a bad text's refusal, or what is said of the list that was read.
 -- Rests on Texts.
 use native.Mathlib.Omega.{arith}
+use Rattle.asking.specs.Says.{saysOf}
 use Rattle.asking.proofs.Texts.{bad-text, good-text, read-bad, read-good, read-few}
 use borrow.Author.Needs.{needs}
 use Rattle.asking.proofs.replies.answer_text.Statement.{statement}
@@ -30,7 +31,7 @@ returns c =
     let told = put .before .before in
     let read = told .before .before .before .before in
     let start = read .before .before .before .before .before .before .before in
-    bad-text (start .args .i) (start .pre .0) (read-bad (read .read-list .ensures) (told .enum-told .given .1)) (put .put-refused-line .ensures) (start .pre .1 .1)
+    bad-text (saysOf (start .args .program)) (start .args .i) (start .pre .0) (read-bad (read .read-list .ensures) (told .enum-told .given .1)) (put .put-refused-line .ensures) (omega (arith, start .pre .1 .1))
 
 sub-answer-list : tie.Need-sub-answer-list
 sub-answer-list c = search needs
@@ -58,7 +59,8 @@ returns-2 c =
     let asked = c .before .before .before .before in
     let told = asked .before .before .before .before .before .before in
     let read = told .before .before .before .before in
-    good-text (read .before .before .before .before .before .before .before .args .i) (read-good (read .read-list .ensures) (told .read .given .1)) (asked .answer-list .ensures)
+    let start = read .before .before .before .before .before .before .before in
+    good-text (saysOf (start .args .program)) (start .args .i) (read-good (read .read-list .ensures) (told .read .given .1)) (asked .answer-list .ensures)
 
 pub answer-text-spec : {M : Type 1} → statement M
 answer-text-spec =

@@ -1,11 +1,12 @@
 -- `asking::turns::next_list` meets its contract: the bytes up to the line's end are line i, and line i + 1 starts after them.
--- Rests on Asks.
+-- Rests on Lines.
 use native.Mathlib.Omega.{arith}
 use Prim.Native.Nat.{_-_}
 use Rattle.lists.proofs.Sections.{length-part}
 use Rattle.paper.specs.Text.{newline}
 use Rattle.text.proofs.Split.{part-starts, part-within}
-use Rattle.asking.proofs.Asks.{turned}
+use Rattle.asking.specs.Says.{saysOf}
+use Rattle.asking.proofs.Lines.{turned}
 use borrow.Author.Needs.{needs}
 use Rattle.asking.proofs.turns.next_list.Statement.{statement}
 use Rattle.asking.proofs.turns.next_list.Tie as tie
@@ -52,8 +53,8 @@ answer-text-requires c κs =
       ),
     )
 
-add-t13 : tie.Need-add-t13
-add-t13 c =
+add-t14 : tie.Need-add-t14
+add-t14 c =
     let ended = c .before .before .before .before .before .before .before .before .before .before .before in
     let start = ended .before .before .before .before .before .before in
     omega (
@@ -77,7 +78,7 @@ returns c =
     let asked = c .before .before .before .before .before .before in
     let ended = asked .before .before .before .before .before in
     let start = ended .before .before .before .before .before .before in
-    turned (start .args .input .now) (start .args .at) (start .args .i) (start .pre .1 .0) (start .pre .1 .1 .0) (ended .line-end .ensures)
+    turned (start .args .input .now) (start .args .at) (start .args .i) (start .pre .1 .0) (start .pre .1 .1 .0) (saysOf (start .args .program)) (ended .line-end .ensures)
     (asked .answer-text .ensures)
 
 pub next-list-spec : {M : Type 1} → statement M
@@ -89,7 +90,7 @@ next-list-spec =
     part-answer-text-start
     part-answer-text-end
     answer-text-requires
-    add-t13
+    add-t14
     same-length
     same-length-2
     same-length-3

@@ -2,7 +2,7 @@
 -- Rests on IntervalsFound and intervals' Taken.
 use Rattle.tables.proofs.Within.{within-none}
 use Rattle.tables.proofs.Usable.{still-usable}
-use Rattle.line_checker.proofs.Into.{into-answered}
+use Rattle.intervals.proofs.Into.{into-answered}
 use Rattle.line_checker.proofs.IntervalsFound.{empty-into, refused-into, nodes-into}
 use Rattle.intervals.proofs.Taken.{taken-kept, not-taken, all-taken, listed}
 use borrow.Author.Needs.{needs}

@@ -1,0 +1,80 @@
+-- `asking::answer_lists` meets its contract. The loop: before turn i line i is next (SoFar), and the lent slices keep their lengths.
+-- Rests on Lines.
+use Prim.Native.Nat.{_-_}
+use native.Mathlib.Omega.{arith}
+use borrow.Author.Needs.{needs}
+use mathlib.Core.Path.{_≡_, refl}
+use lib.ListN.{length}
+use Rattle.asking.proofs.Lines.{SoFar, turn-first, turn-more, turns-done}
+use Rattle.asking.proofs.answer_lists.Statement.{statement}
+use Rattle.asking.proofs.answer_lists.Tie as tie
+
+abbrev Inv-loop : tie.InvT-loop
+Inv-loop program map input area₀ list₀ out₀ at₀ i₀ area list out at i =
+    SoFar map input area at i × (length area ≡ length area₀) × (length list ≡ length list₀) × (length out ≡ length out₀)
+
+abbrev μ-loop : tie.MeasureT-loop
+μ-loop program map input area₀ list₀ out₀ at₀ i₀ area list out at i = length input - at
+
+loop-holds : tie.Need-loop-holds Inv-loop μ-loop
+loop-holds c = (turn-first (c .before .before .before .before .before .pre .0), refl, refl, refl)
+
+next-list-requires : tie.Need-next-list-requires Inv-loop μ-loop
+next-list-requires c κs =
+    let far = c .before .before .before .before .loop .inv .0 in
+    (far .standing, (far .starts, (search needs, (search needs, (omega arith, omega arith)))))
+
+sub-write-all : tie.Need-sub-write-all Inv-loop μ-loop
+sub-write-all c = search needs
+
+part-write-all-start : tie.Need-part-write-all-start Inv-loop μ-loop
+part-write-all-start c = search needs
+
+part-write-all-end : tie.Need-part-write-all-end Inv-loop μ-loop
+part-write-all-end c = search needs
+
+write-all-requires : tie.Need-write-all-requires Inv-loop μ-loop
+write-all-requires c κs = search needs
+
+add-i : tie.Need-add-i Inv-loop μ-loop
+add-i c = search needs
+
+loop-less : tie.Need-loop-less Inv-loop μ-loop
+loop-less c = search needs
+
+loop-again : tie.Need-loop-again Inv-loop μ-loop
+loop-again c =
+    let asked = c .before .before .before .before .before .before .before .before .before in
+    (turn-more (asked .before .before .before .before .before .loop .inv .0) (asked .next-list .ensures), search needs, search needs, search needs)
+
+same-length : tie.Need-same-length Inv-loop μ-loop
+same-length c = search needs
+
+same-length-2 : tie.Need-same-length-2 Inv-loop μ-loop
+same-length-2 c = search needs
+
+same-length-3 : tie.Need-same-length-3 Inv-loop μ-loop
+same-length-3 c = search needs
+
+returns : tie.Need-returns Inv-loop μ-loop
+returns c = turns-done (c .before .loop .inv .0) (search needs)
+
+pub answer-lists-spec : {M : Type 1} → statement M
+answer-lists-spec =
+    tie.close
+    (tie.spec
+    Inv-loop
+    μ-loop
+    loop-holds
+    next-list-requires
+    sub-write-all
+    part-write-all-start
+    part-write-all-end
+    write-all-requires
+    add-i
+    loop-less
+    loop-again
+    same-length
+    same-length-2
+    same-length-3
+    returns)

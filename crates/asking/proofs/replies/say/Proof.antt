@@ -1,0 +1,69 @@
+-- `asking::replies::say` meets its contract: each program says what is its own.
+-- Rests on Texts.
+use mathlib.Core.Path.{ap}
+use Rattle.asking.specs.Standing.{preparedArea}
+use Rattle.asking.specs.declared.Program.{Program}
+use Rattle.asking.specs.Says.{saysOf}
+use Rattle.asking.proofs.Texts.{printed-as}
+use borrow.Author.Needs.{needs}
+use Rattle.asking.proofs.replies.say.Statement.{statement}
+use Rattle.asking.proofs.replies.say.Tie as tie
+
+enum-told : tie.Need-enum-told
+enum-told c = search needs
+
+say-checks-requires : tie.Need-say-checks-requires
+say-checks-requires c κs = search needs
+
+enum-told-2 : tie.Need-enum-told-2
+enum-told-2 c = search needs
+
+say-path-requires : tie.Need-say-path-requires
+say-path-requires c κs = search needs
+
+same-length : tie.Need-same-length
+same-length c = search needs
+
+same-length-2 : tie.Need-same-length-2
+same-length-2 c = search needs
+
+returns : tie.Need-returns
+unfolding saysOf
+returns c =
+    let said = c .before .before .before .before in
+    let told = said .before .before .before in
+    let given = told .before .before .before .before .before .before .args in (
+      printed-as (ap (λ (p : Program). saysOf p (given .map .now) (preparedArea (given .map .now)) (given .list .now)) (told .enum-told .given .1)) (said .say-checks .ensures .0),
+      said .say-checks .ensures .1,
+    )
+
+same-length-3 : tie.Need-same-length-3
+same-length-3 c = search needs
+
+same-length-4 : tie.Need-same-length-4
+same-length-4 c = search needs
+
+returns-2 : tie.Need-returns-2
+unfolding saysOf
+returns-2 c =
+    let said = c .before .before .before .before in
+    let told = said .before .before .before in
+    let given = told .before .before .before .before .before .before .args in (
+      printed-as (ap (λ (p : Program). saysOf p (given .map .now) (preparedArea (given .map .now)) (given .list .now)) (told .enum-told2 .given .1)) (said .say-path .ensures .0),
+      said .say-path .ensures .1,
+    )
+
+pub say-spec : {M : Type 1} → statement M
+say-spec =
+    tie.close
+    (tie.spec
+    enum-told
+    say-checks-requires
+    enum-told-2
+    say-path-requires
+    same-length
+    same-length-2
+    returns
+    same-length-3
+    same-length-4
+    returns-2)

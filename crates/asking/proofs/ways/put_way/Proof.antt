@@ -1,0 +1,122 @@
+-- `asking::ways::put_way` meets its contract: each answer is shown as paper shows it, a path by the words in which its steps stand.
+-- Rests on Paths.
+use native.Mathlib.Omega.{arith}
+use mathlib.Core.Path.{sym, ap, ap₂, _∙_}
+use Rattle.paper.specs.Text.{showRefused, showWay}
+use Rattle.text.proofs.Printed.{refused-short}
+use Rattle.back_path.specs.declared.showing.PathAnswer.{PathAnswer}
+use Rattle.back_path.specs.Said.{pathSaid}
+use Rattle.asking.specs.Ways.{wayIn}
+use Rattle.asking.proofs.Texts.{put-as}
+use Rattle.asking.proofs.Paths.{count-within, part-within, part-is}
+use borrow.Author.Needs.{needs}
+use Rattle.asking.proofs.ways.put_way.Statement.{statement}
+use Rattle.asking.proofs.ways.put_way.Tie as tie
+
+enum-known-answer : tie.Need-enum-known-answer
+enum-known-answer c = search needs
+
+sub-put-path : tie.Need-sub-put-path
+sub-put-path c = search needs
+
+part-put-path-start : tie.Need-part-put-path-start
+part-put-path-start c = search needs
+
+part-put-path-end : tie.Need-part-put-path-end
+part-put-path-end c =
+    let told = c .before .before in
+    let start = told .before .before .before .before in
+    count-within (start .args .path .now) (told .answer .given .1) (start .pre .0)
+
+put-path-requires : tie.Need-put-path-requires
+put-path-requires c κs =
+    let told = c .before .before .before in
+    let start = told .before .before .before .before in
+    omega (arith, start .pre .1, part-within (start .args .path .now) (told .answer .given .1))
+
+enum-told : tie.Need-enum-told
+enum-told c = search needs
+
+slice-aggregate-put-text : tie.Need-slice-aggregate-put-text
+slice-aggregate-put-text c = search needs
+
+put-text-requires : tie.Need-put-text-requires
+put-text-requires c κs = search needs
+
+enum-known-answer-2 : tie.Need-enum-known-answer-2
+enum-known-answer-2 c = search needs
+
+number-requires : tie.Need-number-requires
+number-requires c κs = search needs
+
+place-requires : tie.Need-place-requires
+place-requires c κs = search needs
+
+put-refused-requires : tie.Need-put-refused-requires
+put-refused-requires c κs = search needs
+
+same-length : tie.Need-same-length
+same-length c = search needs
+
+returns : tie.Need-returns
+returns c =
+    let put = c .before .before in
+    let told = put .before .before .before .before in
+    let start = told .before .before .before .before in (
+      put-as (ap showWay (part-is (start .args .path .now) (told .answer .given .1))) (put .put-path .ensures .0),
+      omega (arith, put .put-path .ensures .1, start .pre .1, part-within (start .args .path .now) (told .answer .given .1)),
+    )
+
+same-length-2 : tie.Need-same-length-2
+same-length-2 c = search needs
+
+returns-2 : tie.Need-returns-2
+unfolding showWay
+returns-2 c =
+    let put = c .before .before in
+    let told = put .before .before .before in
+    let words = told .before .before .before .before .args .path .now in (
+      put-as (ap (λ (a : PathAnswer). showWay (wayIn (pathSaid a) words)) (told .enum-told .given .1)) (put .put-text .ensures),
+      search needs,
+    )
+
+same-length-3 : tie.Need-same-length-3
+same-length-3 c = search needs
+
+returns-3 : tie.Need-returns-3
+unfolding showWay
+returns-3 c =
+    let put = c .before .before in
+    let placed = put .before in
+    let numbered = placed .before in
+    let told = numbered .before .before .before in
+    let words = told .before .before .before .before .args .path .now in (
+      put-as
+          (ap (λ (a : PathAnswer). showWay (wayIn (pathSaid a) words)) (told .answer2 .given .1)
+          ∙ ap₂ showRefused (sym (numbered .number .ensures)) (sym (placed .place .ensures)))
+          (put .put-refused .ensures),
+      omega (arith, put .put-refused .ensures .ends, refused-short (numbered .number .result) (placed .place .result)),
+    )
+
+pub put-way-spec : {M : Type 1} → statement M
+put-way-spec =
+    tie.close
+    (tie.spec
+    enum-known-answer
+    sub-put-path
+    part-put-path-start
+    part-put-path-end
+    put-path-requires
+    enum-told
+    slice-aggregate-put-text
+    put-text-requires
+    enum-known-answer-2
+    number-requires
+    place-requires
+    put-refused-requires
+    same-length
+    returns
+    same-length-2
+    returns-2
+    same-length-3
+    returns-3)
