@@ -16,8 +16,9 @@ use Rattle.paper.specs.Intervals.{No, Interval, Records, intervals}
 use Rattle.paper.specs.Walk.{walk, lineCheck}
 use Rattle.paper.specs.OrderCheck.{orderCheck}
 use Rattle.paper.specs.Records.{recordsIn, extend, nodesIn}
+use Rattle.paper.specs.Path.{backPath, stepsOf, shownOf}
 use Rattle.paper.specs.Ports.{firstLine, lineCountAt, linesAt, viewStart, conflict}
-use Rattle.paper.specs.Refusals.{Ruling, passed, refuse, rule1, rule2, rule3, rule7, rule9, rule10, rule11, rule12, rule13, wholeRecords, decide, answer}
+use Rattle.paper.specs.Refusals.{Ruling, passed, refuse, rule1, rule2, rule3, rule7, rule8, rule9, rule10, rule11, rule12, rule13, wholeRecords, decide, answer}
 use Rattle.paper.specs.Calls.{
   untouched,
   unprepared,
@@ -39,6 +40,7 @@ use Rattle.paper.specs.Calls.{
   isConvexByIntervals,
   tryExtendIntervals,
   nodesInIntervals,
+  showPath,
   linesAtPort,
   viewAt,
   viewOfPort,
@@ -166,6 +168,17 @@ module _ {b a c : List ℕ} (same : SameInUse b a c) (room-a : W b ≤ length a)
           next (rule12-same t words n) (λ e12. next (rule13-same t rs) (λ e13.
           next (ap (λ (nodes : List ℕ). rule11 (length buffer) (length nodes)) e) (λ e11. in-the-end e))))
 
+  -- the path reads no word of the area
+  path-shown : (list buffer : List ℕ) → SameWritten (showPath b a list buffer) (showPath b c list buffer)
+  unfolding showPath callInto lineRules
+  path-shown list buffer = (same-answer alike shownOf, same-kept alike buffer (λ found. sets buffer 0 (stepsOf found)))
+    where
+      rules : List Ruling
+      rules = rule8 (length list) ∷ rule9 b list ∷ rule10 list ∷ rule11 (length buffer) (length (stepsOf (backPath b list))) ∷ []
+
+      alike : Alike (opening b a ++ rules) (opening b c ++ rules) (backPath b list) (backPath b list)
+      alike = opened (λ t s. next refl (λ e8. next refl (λ e9. next refl (λ e10. next refl (λ e11. in-the-end refl)))))
+
   lines-found : (p : ℕ) → SameAnswer (linesAtPort b a p) (linesAtPort b c p)
   unfolding linesAtPort call
   lines-found p =
@@ -206,6 +219,7 @@ module _ {b a c : List ℕ} (same : SameInUse b a c) (room-a : W b ≤ length a)
         checkByRecords = checked-records;
         extending = extension-written;
         nodesInRecords = nodes-written;
+        pathShown = path-shown;
         linesAtOne = lines-found;
         viewPlace = lines-placed;
         view = lines-viewed;

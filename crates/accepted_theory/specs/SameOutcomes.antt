@@ -15,6 +15,7 @@ use Rattle.paper.specs.Calls.{
   isConvexByIntervals,
   tryExtendIntervals,
   nodesInIntervals,
+  showPath,
   linesAtPort,
   viewAt,
   viewOfPort,
@@ -37,6 +38,7 @@ pub record SameOutcomes (b a c : List ℕ) : Type 0 where
   pub checkByRecords : (words : List ℕ) (n : ℕ) → SameAnswer (isConvexByIntervals b a words n) (isConvexByIntervals b c words n)
   pub extending : (words : List ℕ) (n v : ℕ) → SameWritten (tryExtendIntervals b a words n v) (tryExtendIntervals b c words n v)
   pub nodesInRecords : (words : List ℕ) (n : ℕ) (buffer : List ℕ) → SameWritten (nodesInIntervals b a words n buffer) (nodesInIntervals b c words n buffer)
+  pub pathShown : (list buffer : List ℕ) → SameWritten (showPath b a list buffer) (showPath b c list buffer)
   pub linesAtOne : (p : ℕ) → SameAnswer (linesAtPort b a p) (linesAtPort b c p)
   pub viewPlace : (p : ℕ) → viewAt b a p ≡ viewAt b c p
   pub view : (p : ℕ) → viewOfPort b a p ≡ viewOfPort b c p

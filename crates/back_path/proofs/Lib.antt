@@ -3,3 +3,4 @@ pub mod Written
 pub mod Told
 pub mod Answers
 pub mod Listing
+pub mod Apart

@@ -1,19 +1,19 @@
 -- Intervals into a buffer of bytes: the records that fit a room of so many as the buffer has, or 2,560, are those that fit the buffer, and the
 -- questions on a list from bytes answer as those on its words.
--- Rests on Few, IntoBytes and line_checker's IntervalsFound.
+-- Rests on Few, Room and line_checker's IntervalsFound.
 use Prim.Native.Nat.{ℕ, _-_, _*_, _/_, _≤_, min}
 use native.Mathlib.Omega.{arith}
 use mathlib.Core.Path.{_≡_, refl, sym, ap, _∙_, subst}
 use mathlib.Core.List.{List, [], _∷_, _++_}
 use types.Run.{OneOf, miss}
 use denote.Enum.Declared.{tagOf}
-use lib.ListN.{length, take, length-append, length-take}
-use lib.Seq.{take-append-le}
+use lib.ListN.{length, take}
 use Rattle.lists.proofs.Sections.{part, length-part}
 use Rattle.paper.specs.Calls.{Written, wrote, needed, said, wordsOf}
-use Rattle.paper.specs.Intervals.{Records, intervals}
-use Rattle.paper.specs.Refusals.{Ruling, rule9, rule10, rule11, wholeRecords, Answer, answered, decide}
+use Rattle.paper.specs.Intervals.{Records, records, apart, intervals}
+use Rattle.paper.specs.Refusals.{Ruling, passed, rule9, rule10, rule11, wholeRecords, Answer, answered, answer, decide}
 use Rattle.paper.specs.Words.{wordsFrom, putWords}
+use Rattle.records_theory.proofs.Reading.{length-words}
 use Rattle.words.proofs.RoundTrip.{Below}
 use Rattle.words.proofs.Turns.{length-wordsFrom}
 use Rattle.take_in.proofs.Answers.{AllNodes}
@@ -27,99 +27,91 @@ use Rattle.line_checker.specs.declared.list_intervals.IntervalsAnswer.the-varia
 use Rattle.line_checker.proofs.list_intervals.IntervalsAnswer.{the-type}
 use Rattle.line_checker.proofs.Answers.{intervalsSaid-injective}
 use Rattle.line_checker.proofs.IntervalsFound.{nodes-into}
+use Rattle.line_checker.proofs.Records.{Wrote, wrote-some}
 use Rattle.byte_lists.proofs.Few.{few-needed, room-decides, long-enough}
-use Rattle.byte_lists.proofs.IntoBytes.{bytes-back, none-to-bytes, rules-passed, made-needed, room-stands, some-to-bytes}
+use Rattle.byte_lists.proofs.IntoBytes.{bytes-back, answer-told}
+use Rattle.byte_lists.proofs.Room.{InRoom, room-says, nothing-put, words-few, words-put}
 
 -- 11 of some records and a buffer
 abbrev Rules : List ℕ → Records → List Ruling
 Rules buffer found = rule11 (wholeRecords buffer) (needed found) ∷ []
 
--- an answer that is not of records says of none that they were written
-not-records : (r : IntervalsAnswer) → OneOf (1 ∷ 2 ∷ []) (tagOf the-type r) → (k : ℕ) → intervalsSaid r ≡ answered (wrote k) → ⊥
-not-records r h k e =
-    miss (1 ∷ 2 ∷ []) 0 tt (subst (λ (s : IntervalsAnswer). OneOf (1 ∷ 2 ∷ []) (tagOf the-type s)) (intervalsSaid-injective r (Made k) e) h)
+words-needed : (found : Records) → length (wordsOf found) ≡ 3 * needed found
+unfolding wordsOf needed
+words-needed (records rs) = length-words rs
+words-needed apart = refl
 
 -- ---- from the intervals in a room of words
 
--- few records were asked for in a room for so many as the bytes hold, or 2,560
-pub record InRoom (n l p : ℕ) (a m : List ℕ) (r : IntervalsAnswer) (found : Records) (room after bytes : List ℕ) : Type 0 where
-  pub few : needed found ≤ 2560
-  pub long : length room ≡ 3 * min (length bytes / 2 / 3) 2560
-  pub small : Below 256 bytes
-  pub into : AnsweredInto n l p a m (intervalsSaid r) (Rules room found) (said found) room after (wordsOf found)
+-- few records are asked for in a room for so many as the bytes hold, or 2,560, which is lent as the first words of a longer one
+pub record RecordsIn (n l p : ℕ) (a m : List ℕ) (r : IntervalsAnswer) (found : Records) (room after bytes : List ℕ) : Type 0 where
+  pub inside : InRoom n l p a m (intervalsSaid r) (Rules (wordsFrom bytes) found) (said found) room after (wordsOf found) bytes
 
--- the room is lent as the first words of a longer one
 pub in-room : {b a : List ℕ} {n l p c : ℕ} → Usable b a n l p → Listed a (scratchAt n l) c n → (bytes : List ℕ) → Below 256 bytes → {fit : ℕ}
     → fit ≡ min (length bytes / 2 / 3) 2560
     → (room : List ℕ) → length room ≡ 7680 → (r : IntervalsAnswer) {m after : List ℕ}
     → AnsweredInto n l p a m (intervalsSaid r) (Rules (part room 0 (3 * fit - 0)) (intervals b a (listIn a n l c))) (said (intervals b a (listIn a n l c)))
     (part room 0 (3 * fit - 0)) after (wordsOf (intervals b a (listIn a n l c)))
-    → InRoom n l p a m r (intervals b a (listIn a n l c)) (part room 0 (3 * fit - 0)) after bytes
-in-room usable there bytes small {fit} enough room long r into =
+    → RecordsIn n l p a m r (intervals b a (listIn a n l c)) (part room 0 (3 * fit - 0)) after bytes
+unfolding wholeRecords
+in-room {b} {a} {n} {l} {c = c} usable there bytes small {fit} enough room long r into =
     record {
-      few = few-needed usable there;
-      long = length-part room 0 (3 * fit - 0) (omega (arith, long, enough)) ∙ omega (arith, enough);
-      small = small;
-      into = into;
+      inside =
+          record {
+            own = Rules (part room 0 (3 * fit - 0)) found;
+            into = into;
+            same = same;
+            fits = λ fine.
+                omega (arith, words-needed found, long-enough (length (part room 0 (3 * fit - 0)) / 3) (needed found) (fine ∙ sym same));
+            half = omega (arith, lent, enough);
+            small = small;
+          };
     }
+  where
+    found : Records
+    found = intervals b a (listIn a n l c)
 
-module _ {n l p : ℕ} {a m : List ℕ} {r : IntervalsAnswer} {found : Records} {room after bytes : List ℕ} (asked : InRoom n l p a m r found room after bytes) where
-  -- the room decides as the bytes do
-  same : decide (Rules room found) ≡ decide (Rules (wordsFrom bytes) found)
-  unfolding wholeRecords
-  same =
-      ap (λ (u : Ruling). decide (u ∷ []))
-      (ap (λ (k : ℕ). rule11 k (needed found)) whole ∙ room-decides (length (wordsFrom bytes) / 3) 2560 (needed found) (asked .few))
-    where
-      whole : length room / 3 ≡ min (length (wordsFrom bytes) / 3) 2560
-      whole = omega (arith, asked .long, length-wordsFrom bytes)
+    lent : length (part room 0 (3 * fit - 0)) ≡ 3 * fit
+    lent = length-part room 0 (3 * fit - 0) (omega (arith, long, enough)) ∙ omega (arith, enough)
 
+    whole : length (part room 0 (3 * fit - 0)) / 3 ≡ min (length (wordsFrom bytes) / 3) 2560
+    whole = omega (arith, lent, enough, length-wordsFrom bytes)
+
+    -- the room decides as the bytes do
+    same : decide (Rules (part room 0 (3 * fit - 0)) found) ≡ decide (Rules (wordsFrom bytes) found)
+    same =
+        ap (λ (u : Ruling). decide (u ∷ []))
+        (ap (λ (k : ℕ). rule11 k (needed found)) whole ∙ room-decides (length (wordsFrom bytes) / 3) 2560 (needed found) (few-needed usable there))
+
+module _ {n l p : ℕ} {a m : List ℕ} {r : IntervalsAnswer} {found : Records} {room after bytes : List ℕ} (asked : RecordsIn n l p a m r found room after bytes) where
+  -- an answer that is not of records
   pub not-to-bytes : OneOf (1 ∷ 2 ∷ []) (tagOf the-type r)
       → AnsweredBytes n l p a m (intervalsSaid r) (Rules (wordsFrom bytes) found) (said found) bytes bytes (wordsOf found)
-  not-to-bytes h = none-to-bytes (Rules (wordsFrom bytes) found) found bytes (asked .small) (asked .into) same (not-records r h)
+  unfolding answer said wordsOf
+  not-to-bytes h = nothing-put (asked .inside) (λ fine. no-words found (room-says (asked .inside) ∙ ap (λ (u : Ruling). answer u (said found)) (sym fine)))
+    where
+      not-records : (k : ℕ) → intervalsSaid r ≡ answered (wrote k) → ⊥
+      not-records k e =
+          miss (1 ∷ 2 ∷ []) 0 tt (subst (λ (s : IntervalsAnswer). OneOf (1 ∷ 2 ∷ []) (tagOf the-type s)) (intervalsSaid-injective r (Made k) e) h)
+
+      no-words : (f : Records) → intervalsSaid r ≡ answer passed (said f) → wordsOf f ≡ []
+      no-words (records rs) e = absurd (not-records (length rs) e)
+      no-words apart e = refl
 
   module _ {made : ℕ} (e : r ≡ Made made) where
-    told : intervalsSaid r ≡ answered (wrote made)
-    told = ap intervalsSaid e
+    -- so many records there are
+    pub made-so : (passed ≡ decide (Rules (wordsFrom bytes) found)) × (3 * made ≡ length (wordsOf found))
+    unfolding needed
+    made-so =
+        let told = answer-told (decide (Rules (wordsFrom bytes) found)) (sym (ap intervalsSaid e) ∙ room-says (asked .inside)) in
+        let held = wrote-some found made (told .1) in
+        (told .0, ap (λ (k : ℕ). 3 * k) (held .many ∙ ap needed (sym (held .is))) ∙ sym (words-needed found))
 
-    -- the records fit the room, and so the bytes
-    records-fit : 3 * made ≤ length room
-    unfolding wholeRecords
-    records-fit =
-        omega (
-          arith,
-          made-needed (Rules (wordsFrom bytes) found) found bytes (asked .small) (asked .into) same told,
-          long-enough (length room / 3) (needed found)
-              (rules-passed (Rules (wordsFrom bytes) found) found bytes (asked .small) (asked .into) same told ∙ sym same),
-        )
-
-    pub few-words : 3 * made ≤ 7680
-    few-words = omega (arith, records-fit, asked .long)
-
-    bytes-fit : 2 * (3 * made) ≤ length bytes
-    bytes-fit = omega (arith, records-fit, asked .long)
-
-    long-after : length after ≡ length room
-    long-after = room-stands (Rules (wordsFrom bytes) found) found bytes (asked .small) (asked .into) same told
-
-    -- .. as the first words of the longer one, whose other words are `rest`
-    module _ (rest : List ℕ) where
-      pub records-inside : 3 * made ≤ length (after ++ rest)
-      records-inside = omega (arith, records-fit, long-after, length-append after rest)
-
-      pub words-fit : 2 * length (take (3 * made - 0) (after ++ rest)) ≤ length bytes
-      words-fit = omega (arith, bytes-fit, length-take (3 * made - 0) (after ++ rest))
-
-      pub records-to-bytes : {now : List ℕ} → now ≡ putWords bytes (take (3 * made - 0) (after ++ rest))
-          → AnsweredBytes n l p a m (answered (wrote made)) (Rules (wordsFrom bytes) found) (said found) bytes now (wordsOf found)
-      records-to-bytes {now} f =
-          subst (λ (x : Answer Written). AnsweredBytes n l p a m x (Rules (wordsFrom bytes) found) (said found) bytes now (wordsOf found)) told
-          (some-to-bytes (Rules (wordsFrom bytes) found) found bytes (asked .small) (asked .into) same told records-fit bytes-fit
-          (f ∙ ap (λ (k : ℕ). putWords bytes (take k (after ++ rest))) all
-          ∙ ap (putWords bytes) (take-append-le (3 * made) after rest (omega (arith, records-fit, long-after)))))
-        where
-          all : 3 * made - 0 ≡ 3 * made
-          all = omega arith
+    pub records-to-bytes : (rest : List ℕ) {now : List ℕ} → now ≡ putWords bytes (take (3 * made - 0) (after ++ rest))
+        → AnsweredBytes n l p a m (answered (wrote made)) (Rules (wordsFrom bytes) found) (said found) bytes now (wordsOf found)
+    records-to-bytes rest {now} f =
+        subst (λ (x : Answer Written). AnsweredBytes n l p a m x (Rules (wordsFrom bytes) found) (said found) bytes now (wordsOf found))
+        (ap intervalsSaid e) (words-put (asked .inside) made-so rest f)
 
 -- ---- from the caller's list
 

@@ -1,3 +1,5 @@
 pub mod Few
 pub mod IntoBytes
+pub mod Room
 pub mod IntervalsBytes
+pub mod PathBytes

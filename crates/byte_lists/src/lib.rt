@@ -2,8 +2,8 @@
 ghost use mathlib.Core.Path.{_≡_};
 ghost use mathlib.Core.List.{[], _∷_, _++_};
 ghost use Prim.Native.Nat.{min};
-ghost use Rattle.paper.specs.Calls.{lineRules, needed, said, wordsOf};
 ghost use lib.ListN.{length};
+ghost use Rattle.paper.specs.Calls.{lineRules, needed, said, wordsOf};
 ghost use Rattle.paper.specs.Intervals.{intervals};
 ghost use Rattle.paper.specs.Path.{backPath, shownOf, stepsOf};
 ghost use Rattle.paper.specs.Refusals.{rule9, rule10, rule11, wholeRecords};
@@ -116,19 +116,19 @@ pub fn intervals_of_list_bytes(
     write_intervals_bytes(b, n, l, p, area, count, buffer)
 }
 
-// Room for the longest path: each of 512 nodes, and two steps more.
-fn path_room() -> [u16; 514]
-    ensures { λ r. ⌜ length r ≡ 514 ⌝ }
+// Room for the longest path of the largest map: no node stands in it twice, unless its start is its end.
+fn path_room() -> [u16; 513]
+    ensures { λ r. ⌜ length r ≡ 513 ⌝ }
 {
-    [0u16; 514]
+    [0u16; 513]
 }
 
 // So many steps as there is room for here.
 fn few_steps(whole: usize) -> usize
-    ensures { λ r. ⌜ r ≡ min whole 514 ⌝ }
+    ensures { λ r. ⌜ r ≡ min whole 513 ⌝ }
 {
-    if 514 < whole {
-        return 514;
+    if 513 < whole {
+        return 513;
     }
     whole
 }

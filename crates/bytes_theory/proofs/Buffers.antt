@@ -1,5 +1,5 @@
 -- A result in a lent buffer of bytes: reading the words, writing the result over the first of them and putting all back is to put the
--- result alone; and the first words are those of the first bytes.
+-- result alone; the first words are those of the first bytes; and what is put is read.
 -- Rests on words (RoundTrip, Turns).
 use Prim.Native.Nat.{ℕ, zero, suc, _+_, _*_, _/_, _%_, _≤_}
 use native.Mathlib.Nat.{zero-add}
@@ -7,10 +7,11 @@ use native.Mathlib.Omega.{arith}
 use mathlib.Core.Path.{_≡_, refl, sym, ap, _∙_}
 use mathlib.Core.List.{List, [], _∷_, _++_, flatMap}
 use lib.ListN.{length, take, drop, set}
-use lib.Seq.{sets, sets-eq, take-nil}
+use lib.Seq.{sets, sets-eq, length-sets, take-nil, take-all}
+use Rattle.lists.proofs.Sections.{part-sets-in}
 use Rattle.paper.specs.Words.{wordsFrom, bytesFrom, putWords}
-use Rattle.words.proofs.RoundTrip.{Below, wordsFrom-cons, read-and-put}
-use Rattle.words.proofs.Turns.{length-wordsFrom}
+use Rattle.words.proofs.RoundTrip.{Below, wordsFrom-cons, words-and-back, read-and-put}
+use Rattle.words.proofs.Turns.{length-wordsFrom, length-bytesFrom}
 
 -- what is stored after the first element
 sets-cons : (x : ℕ) (xs : List ℕ) (at : ℕ) (vs : List ℕ) → sets (x ∷ xs) (suc at) vs ≡ x ∷ sets xs at vs
@@ -54,3 +55,13 @@ take-words (suc k) (b ∷ []) = ap (λ (n : ℕ). wordsFrom (take n (b ∷ [])))
 take-words (suc k) (a ∷ (b ∷ bs)) =
     ap (take (suc k)) (wordsFrom-cons a b bs) ∙ ap (λ (r : List ℕ). (a + 256 * b) ∷ r) (take-words k bs) ∙ sym (wordsFrom-cons a b (take (2 * k) bs))
     ∙ ap (λ (n : ℕ). wordsFrom (take n (a ∷ (b ∷ bs)))) (sym (two-on k))
+
+-- what is put is read, where it is as many words as stand there
+pub put-and-read : (bs ws : List ℕ) → length ws ≡ length bs / 2 → wordsFrom (putWords bs ws) ≡ ws
+unfolding putWords
+put-and-read bs ws e =
+    sym (take-all (length ws) (wordsFrom (putWords bs ws)) (omega (arith, length-wordsFrom (putWords bs ws), length-sets bs 0 (bytesFrom ws), e)))
+    ∙ take-words (length ws) (putWords bs ws)
+    ∙ ap (λ (n : ℕ). wordsFrom (take n (putWords bs ws))) (sym (length-bytesFrom ws))
+    ∙ ap wordsFrom (part-sets-in bs 0 (bytesFrom ws) 0 (omega (arith, length-bytesFrom ws, e)))
+    ∙ words-and-back ws

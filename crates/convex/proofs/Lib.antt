@@ -1,6 +1,7 @@
 pub mod Answers
 pub mod Calling
 pub mod LineCalls
+pub mod PathCalls
 pub mod TopoCalls
 pub mod Promises
 pub mod FromOrder

@@ -26,6 +26,7 @@ use Rattle.paper.specs.Calls.{
   isConvexByIntervals,
   tryExtendIntervals,
   nodesInIntervals,
+  showPath,
   linesAtPort,
 }
 use Rattle.paper.specs.Words.{wordsFrom, putWords}
@@ -118,6 +119,12 @@ module _ (b a : List ℕ) where
   unfolding nodesInIntervals callInto
   nodes-cross words n buffer =
       let same = outcomes-cut b a .nodesInRecords words n buffer in
+      record { inside = record { answers = sym (same .0); areas = after-cut b a; long = after-long b (cut a) }; buffers = sym (same .1) }
+
+  pub path-crosses : (list buffer : List ℕ) → CrossesWith a (showPath b a list buffer) (showPath b (cut a) list buffer)
+  unfolding showPath callInto
+  path-crosses list buffer =
+      let same = outcomes-cut b a .pathShown list buffer in
       record { inside = record { answers = sym (same .0); areas = after-cut b a; long = after-long b (cut a) }; buffers = sym (same .1) }
 
 -- ---- the bytes

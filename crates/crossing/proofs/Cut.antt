@@ -108,6 +108,7 @@ itself b a =
       checkByRecords = λ words n. refl;
       extending = λ words n v. (refl, refl);
       nodesInRecords = λ words n buffer. (refl, refl);
+      pathShown = λ list buffer. (refl, refl);
       linesAtOne = λ p. refl;
       viewPlace = λ p. refl;
       view = λ p. refl;

@@ -18,6 +18,7 @@ use Rattle.paper.specs.Calls.{
   isConvexByIntervals,
   tryExtendIntervals,
   nodesInIntervals,
+  showPath,
   linesAtPort,
   viewAt,
 }
@@ -45,7 +46,7 @@ module _ {b a c : List ℕ} (shut : Shut b a c) where
   keeps rs ss kept x y = same-kept (alike rs ss x y) kept (λ z. z)
 
   pub refused-alike : SameAnswer (prepare b a) (prepare b c) → SameOutcomes b a c
-  unfolding isNodeConvex topoIsNodeConvex isConvex topoIsConvex getIntervalsFromNodes isConvexByIntervals tryExtendIntervals nodesInIntervals linesAtPort viewAt call callInto
+  unfolding isNodeConvex topoIsNodeConvex isConvex topoIsConvex getIntervalsFromNodes isConvexByIntervals tryExtendIntervals nodesInIntervals showPath linesAtPort viewAt call callInto
   refused-alike preparing =
       record {
         preparing = preparing;
@@ -57,6 +58,7 @@ module _ {b a c : List ℕ} (shut : Shut b a c) where
         checkByRecords = λ words n. says _ _ _ _;
         extending = λ words n v. (says _ _ _ _, keeps _ _ _ _ _);
         nodesInRecords = λ words n buffer. (says _ _ _ _, keeps _ _ _ _ _);
+        pathShown = λ list buffer. (says _ _ _ _, keeps _ _ _ _ _);
         linesAtOne = λ p. says _ _ _ _;
         viewPlace = λ p. says _ _ _ _;
         view = λ p. view-lines b a p ∙ keeps _ _ _ _ _ ∙ sym (view-lines b c p);

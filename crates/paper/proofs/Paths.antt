@@ -108,10 +108,6 @@ table =
     -- no path (P2, P7): never 11
     ∷ inA (1 ∷ 2 ∷ []) 0 (answered noSteps) []
     ∷ inB (0 ∷ 6 ∷ []) 1 (answered noSteps) (9 ∷ [])
-    -- the line check's refusals
-    ∷ inB [] 3 (refused 8 0) (9 ∷ 9 ∷ 9 ∷ [])
-    ∷ inB (0 ∷ 7 ∷ []) 3 (refused 9 1) (9 ∷ 9 ∷ 9 ∷ [])
-    ∷ inB (0 ∷ 3 ∷ 0 ∷ []) 3 (refused 10 2) (9 ∷ 9 ∷ 9 ∷ [])
     ∷ []
 
 pub paths-shown : T (all right table)

@@ -20,11 +20,12 @@ use Rattle.paper.specs.Calls.{
   isConvexByIntervals,
   tryExtendIntervals,
   nodesInIntervals,
+  showPath,
   linesAtPort,
   viewOfPort,
 }
 use Rattle.paper.specs.Words.{bytesFrom}
-use Rattle.paper.specs.Exports.{inCount, inLineReply, inReply, inWritten, inPair}
+use Rattle.paper.specs.Exports.{inCount, inLineReply, inReply, inWritten, inShown, inPair}
 use Rattle.paper.proofs.Everything.{everything}
 use Rattle.paper.proofs.Recording.{Node, node, link, mapBytes}
 
@@ -39,6 +40,7 @@ pub data Call : Type 0 where
   byRecords : (words : List ℕ) (n : ℕ) → Call
   extend : (words : List ℕ) (n node : ℕ) → Call
   nodes : (words : List ℕ) (n : ℕ) (buffer : List ℕ) → Call
+  path : (list buffer : List ℕ) → Call
   port : ℕ → Call
 
 -- the buffer that is lent for the result
@@ -52,9 +54,10 @@ lentBuffer (intervals list buffer) = buffer
 lentBuffer (byRecords words n) = []
 lentBuffer (extend words n v) = words
 lentBuffer (nodes words n buffer) = buffer
+lentBuffer (path list buffer) = buffer
 lentBuffer (port p) = []
 
--- the answer in numbers, as the exports tell it: 1 is an answer or yes, 2 is no, "not contiguous" or "not extendable", each with its values;
+-- the answer in numbers, as the exports tell it: 1 is an answer or yes, 2 is no, "not contiguous", "not extendable" or "no path", each with its values;
 -- 3 is refused, with number and place
 pub record Outcome : Type 0 where
   pub answer : List ℕ
@@ -83,6 +86,7 @@ outcome b a (intervals list buffer) = withBuffer inWritten (getIntervalsFromNode
 outcome b a (byRecords words n) = plain inLineReply (isConvexByIntervals b a words n)
 outcome b a (extend words n v) = withBuffer inWritten (tryExtendIntervals b a words n v)
 outcome b a (nodes words n buffer) = withBuffer inCount (nodesInIntervals b a words n buffer)
+outcome b a (path list buffer) = withBuffer inShown (showPath b a list buffer)
 outcome b a (port p) = plain inPair (linesAtPort b a p)
 
 -- a map b, an area a and a call: refused with number and place, and the area afterwards ("A refusal never writes result buffers");
@@ -238,10 +242,11 @@ goodCalls =
     ∷ byRecords (0 ∷ 0 ∷ 0 ∷ []) 1
     ∷ extend (0 ∷ 0 ∷ 0 ∷ old 3) 1 1
     ∷ nodes (0 ∷ 0 ∷ 0 ∷ []) 1 (old 2)
+    ∷ path (0 ∷ 2 ∷ []) (old 4)
     ∷ port 3
     ∷ []
 
--- inputs that a rule after 7 refuses: 8; 9; 8 and 14; 9 and 14; 9 and 10; 8; 9 and 12; 12; 14
+-- inputs that a rule after 7 refuses: 8; 9; 8 and 14; 9 and 14; 9 and 10; 8; 9 and 12; 12; 9 and 10; 14
 badCalls : List Call
 unfolding old
 badCalls =
@@ -249,6 +254,7 @@ badCalls =
     ∷ byRecords [] 0
     ∷ extend (old 1) 1 3
     ∷ nodes (old 1) 1 (old 1)
+    ∷ path (3 ∷ 3 ∷ []) (old 1)
     ∷ port 6
     ∷ []
 
@@ -374,6 +380,18 @@ lists =
     -- "11 is not given for "not contiguous"": two lines are touched, with no room for a record, then with room for two
     ∷ D-answers (intervals (0 ∷ 2 ∷ []) (old 1)) (2 ∷ []) (old 1)
     ∷ D-answers (intervals (0 ∷ 2 ∷ []) (old 6)) (2 ∷ []) (old 6)
+    -- path (02, No. 1): 8, 9, 10; 9 before 10; 10 before 11; 11
+    ∷ D-refuses (path [] (old 3)) 8 0
+    ∷ D-refuses (path (0 ∷ 3 ∷ []) (old 3)) 9 1
+    ∷ D-refuses (path (0 ∷ 2 ∷ 0 ∷ []) (old 3)) 10 2
+    ∷ D-refuses (path (1 ∷ 1 ∷ 3 ∷ []) (old 3)) 9 2
+    ∷ D-refuses (path (0 ∷ 2 ∷ 0 ∷ []) (old 1)) 10 2
+    ∷ D-refuses (path (0 ∷ 2 ∷ []) (old 2)) 11 3
+    -- "success writes only the result's length"; "no path" needs no room
+    ∷ D-answers (path (0 ∷ 2 ∷ []) (old 3)) (1 ∷ 3 ∷ []) (0 ∷ 1 ∷ 2 ∷ [])
+    ∷ D-answers (path (2 ∷ 0 ∷ []) (old 4)) (1 ∷ 3 ∷ []) (0 ∷ 1 ∷ 2 ∷ old 1)
+    ∷ D-answers (path (0 ∷ 1 ∷ []) []) (2 ∷ []) []
+    ∷ D-answers (path (0 ∷ 1 ∷ []) (old 3)) (2 ∷ []) (old 3)
     ∷ []
 
 records : List Case
@@ -448,5 +466,5 @@ unfolding prepares opens sentences lists records ports
 cases = prepares ++ opens ++ sentences ++ lists ++ records ++ ports
 
 pub every-refusal : T (all right cases)
-unfolding everything mapBytes inCount inLineReply inReply inWritten inPair right lentBuffer inNumbers plain withBuffer outcome gives cases prepares opens sentences lists records ports D area steps lent left unprepared zeros unmarked missing second missingAndSecond ring wide blank alone goodCalls badCalls everyCall unaccepted old D-refuses D-answers
+unfolding everything mapBytes inCount inLineReply inReply inWritten inShown inPair right lentBuffer inNumbers plain withBuffer outcome gives cases prepares opens sentences lists records ports D area steps lent left unprepared zeros unmarked missing second missingAndSecond ring wide blank alone goodCalls badCalls everyCall unaccepted old D-refuses D-answers
 every-refusal = tt

@@ -1,4 +1,4 @@
--- Vectors of single definitions: an area word for word, rounding, the guess, and the program's listing of 01.
+-- Vectors of single definitions: an area word for word, rounding, the guess, the program's listing of 01, and one of `why`.
 -- Rests on Cases for the maps.
 use Prim.Native.Nat.{ℕ}
 use mathlib.Core.Path.{_≡_, refl}
@@ -7,7 +7,7 @@ use lib.ListN.{replicate}
 use Rattle.lists.specs.Ascii.{ascii}
 use Rattle.paper.specs.Calls.{prepare}
 use Rattle.paper.specs.Lookup.{rounded, product, guess}
-use Rattle.paper.specs.Text.{ask}
+use Rattle.paper.specs.Text.{ask, why}
 use Rattle.paper.proofs.Everything.{everything}
 use Rattle.paper.proofs.Recording.{mapBytes}
 use Rattle.paper.proofs.Cases.{mapA, mapB}
@@ -65,6 +65,12 @@ texts : ask bytesB (ascii "00\n65536\n0  3\n65535\n6 0") ≡ ascii
     "steps 7 links 5 lines 3\nrefused 15 0\nrefused 15 1\nrefused 15 2\nline refused 9 0 order refused 9 0\nline yes 3 order yes\n"
 unfolding everything bytesB mapBytes mapB
 texts = refl
+
+-- `why` on the lists of the listing, and on bad text
+whys : why bytesB (ascii "0 3\n0 6\n\n3 3\n0  3\n2 0 1 3 0")
+    ≡ ascii "steps 7 links 5 lines 3\npath 0 1 3\nno path\nrefused 8 0\nrefused 10 1\nrefused 15 4\nrefused 10 4\n"
+unfolding everything bytesB mapBytes mapB
+whys = refl
 
 -- no map at all
 nothing : ask [] (ascii "0\n") ≡ ascii "refused 1 0\n"

@@ -1,12 +1,12 @@
 -- `byte_lists::intervals_of_list_bytes` meets its contract: 9 and 10 from taking the list in from bytes, then its intervals.
--- Rests on IntervalsBytes and line_checker's IntervalsFound and LineCheck.
+-- Rests on IntervalsBytes, line_checker's IntervalsFound and intervals' Taken.
 use native.Mathlib.Omega.{arith}
 use mathlib.Core.Path.{sym, _∙_}
 use Rattle.tables.proofs.Within.{within-none}
 use Rattle.tables.proofs.Usable.{still-usable}
 use Rattle.intervals.proofs.Into.{into-answered}
 use Rattle.line_checker.proofs.IntervalsFound.{empty-into, refused-into}
-use Rattle.line_checker.proofs.LineCheck.{taken-kept, not-taken, all-taken, listed}
+use Rattle.intervals.proofs.Taken.{taken-kept, not-taken, all-taken, listed}
 use Rattle.words.proofs.Turns.{length-wordsFrom}
 use Rattle.byte_lists.proofs.IntoBytes.{bytes-kept}
 use Rattle.byte_lists.proofs.IntervalsBytes.{nodes-to-bytes}

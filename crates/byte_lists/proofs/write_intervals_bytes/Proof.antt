@@ -1,5 +1,5 @@
 -- `byte_lists::write_intervals_bytes` meets its contract: the records go into a room of words, and from there into the bytes.
--- Rests on IntervalsBytes.
+-- Rests on Room and IntervalsBytes.
 use Prim.Native.Nat.{ℕ, _*_, _-_}
 use native.Mathlib.Omega.{arith}
 use mathlib.Core.List.{List}
@@ -7,7 +7,8 @@ use lib.ListN.{drop}
 use Rattle.lists.proofs.Sections.{part}
 use Rattle.paper.specs.Intervals.{intervals}
 use Rattle.intervals.specs.Answer.{listIn}
-use Rattle.byte_lists.proofs.IntervalsBytes.{InRoom, in-room, not-to-bytes, few-words, records-inside, words-fit, records-to-bytes}
+use Rattle.byte_lists.proofs.Room.{words-few, words-inside, words-fit}
+use Rattle.byte_lists.proofs.IntervalsBytes.{RecordsIn, in-room, not-to-bytes, made-so, records-to-bytes}
 use borrow.Author.Needs.{needs}
 use Rattle.byte_lists.proofs.write_intervals_bytes.Statement.{statement}
 use Rattle.byte_lists.proofs.write_intervals_bytes.Tie as tie
@@ -38,7 +39,7 @@ rest w = drop (3 * w .before .before .before .before .few-records .result - 0) (
 
 asked : (w : Written)
     → let s = w .before .before .before .before .before .before .before .before in
-    InRoom (s .args .n) (s .args .l) (s .args .p) (s .args .area .now) (w .write-intervals .last .1 .1 .1 .1 .0) (w .write-intervals .result)
+    RecordsIn (s .args .n) (s .args .l) (s .args .p) (s .args .area .now) (w .write-intervals .last .1 .1 .1 .1 .0) (w .write-intervals .result)
     (intervals (s .args .b .now) (s .args .area .now) (listIn (s .args .area .now) (s .args .n) (s .args .l) (s .args .count)))
     (part (w .before .before .before .record-room .result) 0 (3 * w .before .before .before .before .few-records .result - 0))
     (w .write-intervals .last .1 .1 .1 .1 .1 .1 .0)
@@ -84,7 +85,7 @@ returns c =
 mul-put-words : tie.Need-mul-put-words
 mul-put-words c =
     let written = c .before .before .before .before .before .before in
-    omega (arith, few-words (asked written) (c .before .written .given .1))
+    omega (arith, words-few (asked written .inside) (made-so (asked written) (c .before .written .given .1)))
 
 sub-put-words : tie.Need-sub-put-words
 sub-put-words c = search needs
@@ -96,13 +97,13 @@ part-put-words-end : tie.Need-part-put-words-end
 part-put-words-end c =
     let made = c .before in
     let written = made .before .before .before .before .before .before in
-    records-inside (asked written) (made .before .written .given .1) (rest written)
+    words-inside (asked written .inside) (made-so (asked written) (made .before .written .given .1)) (rest written)
 
 put-words-requires : tie.Need-put-words-requires
 put-words-requires c κs =
     let made = c .before .before .before in
     let written = made .before .before .before .before .before .before in
-    words-fit (asked written) (made .before .written .given .1) (rest written)
+    words-fit (asked written .inside) (made-so (asked written) (made .before .written .given .1)) (rest written)
 
 same-length-2 : tie.Need-same-length-2
 same-length-2 c = search needs
