@@ -95,9 +95,10 @@ uint64_t varddohas_lines_at_port(const uint8_t *map, size_t map_bytes, uint8_t *
 uint64_t varddohas_view_lines_at_port(const uint8_t *map, size_t map_bytes, const uint8_t *area, size_t area_bytes, size_t port,
                                       uint64_t *offset, uint64_t *count, uint64_t *number, uint64_t *place);
 
-/* The path that a no shows: steps that start in the list, end in it and leave it between, each linked to the next; none is shorter. As 16-bit words into the
- * buffer. count: the steps written, with both ends. NO: no path, exactly where the line check says yes. Refusals 1 to 5, 7, 8, 9, 10, 11; a list without a
- * path needs no room. A buffer of as many words as the map has nodes has room for every path. */
+/* The path that a no shows: steps from the list, out of it and back into it, each linked to the next, as few as can be; of several as short, read from the end
+ * backwards, the one with the smaller step at the first difference. As 16-bit words into the buffer. count: the steps written, both ends included. NO: no path,
+ * exactly where the line check says yes; that needs no room. No step stands on a path twice, so a word for each node of the map is room enough. Refusals
+ * 1 to 5, 7, 8, 9, 10, 11. */
 #define VARDDOHAS_STACK_SHOW_PATH 155648
 uint64_t varddohas_show_path(const uint8_t *map, size_t map_bytes, uint8_t *area, size_t area_bytes,
                              const uint8_t *list, size_t list_bytes, uint8_t *buffer, size_t buffer_bytes,

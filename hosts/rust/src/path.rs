@@ -11,10 +11,10 @@ pub enum Shown {
     NoPath,
 }
 
-/// Why the line check of a list is a no: a path that starts in the list, ends in it and leaves it between, each step linked to the next. Its steps are
-/// written to the buffer. None is shorter; of several as short, read from the end backwards, it is the one with the smaller step at the first
-/// difference. There is none exactly where the line check says yes, and then no room is needed; a buffer of as many words as the map has nodes has
-/// room for every path.
+/// Why the line check of a list is a no: a path from the list, out of it and back into it, each step linked to the next. Its steps are written to the
+/// buffer. None is shorter; of several as short, read from the end backwards, it is the one with the smaller step at the first difference. There is
+/// none exactly where the line check says yes, and then no room is needed. No step stands on a path twice, so a word for each node of the map is
+/// room enough.
 ///
 /// ```
 /// # let fields = [0u16, 1, 1, 1, 1, 0, 0, 0, 1, 0, 1, 0, 2, 0, 28, 3, 16, 2];
