@@ -13,7 +13,7 @@ use Rattle.lists.specs.Bounds.{Below}
 use Rattle.lists.proofs.Sections.{part, part-same, length-part, getD-part}
 use Rattle.lists.proofs.Members.{member-below}
 use Rattle.paper.specs.Path.{endsAt, pathTo, path, backPath, stepsOf, Shown, steps, noSteps, shownOf}
-use Rattle.paper.specs.Refusals.{rule11, Answer, answered, refused}
+use Rattle.paper.specs.Refusals.{Ruling, rule11, Answer, answered, refused}
 use Rattle.paper.specs.Calls.{lineRules}
 use Rattle.order_theory.specs.Sound.{Sound}
 use Rattle.order_theory.proofs.Refusals.{sound}
@@ -42,15 +42,15 @@ use Rattle.back_path.specs.Ways.{wayTold, HasWay}
 use Rattle.back_path.proofs.Told.{fed-way, way-told}
 use Rattle.back_path.proofs.Answers.{path-none, path-some, none-into, long-into, fit-into}
 
+-- the path of a list is said, and stands in the buffer, after some rules and 11
+abbrev Shows : List ℕ → List ℕ → ℕ → ℕ → ℕ → List ℕ → List ℕ → List Ruling → Answer Shown → List ℕ → List ℕ → Type 0
+Shows b list n l p a m rules said buffer after =
+    AnsweredInto n l p a m said (rules ++ (rule11 (length buffer) (length (stepsOf (backPath b list))) ∷ [])) (shownOf (backPath b list)) buffer after
+    (stepsOf (backPath b list))
+
 module _ {b a : List ℕ} {n l p count : ℕ} (usable : Usable b a n l p) (listed : Listed a (scratchAt n l) count n) where
   abbrev list : List ℕ
   list = listIn a n l count
-
-  -- the answer and the buffer for this list
-  abbrev Shows : List ℕ → Answer Shown → List ℕ → List ℕ → Type 0
-  Shows m said buffer after =
-      AnsweredInto n l p a m said (rule11 (length buffer) (length (stepsOf (backPath b list))) ∷ []) (shownOf (backPath b list)) buffer after
-      (stepsOf (backPath b list))
 
   fits : scratchAt n l + count ≤ length a
   fits = omega (arith, usable .room, listed .few)
@@ -94,7 +94,7 @@ module _ {b a : List ℕ} {n l p count : ℕ} (usable : Usable b a n l p) (liste
         closes : Closes b list a₃ (scratchAt n l) n r
         closes = subst (λ (xs : List ℕ). Closes b xs a₃ (scratchAt n l) n r) (marked .list ∙ list₁) (closed .closes)
 
-        pub shows-none : r ≡ Never → (buffer : List ℕ) → Shows a₃ (answered noSteps) buffer buffer
+        pub shows-none : r ≡ Never → (buffer : List ℕ) → Shows b list n l p a a₃ [] (answered noSteps) buffer buffer
         shows-none e buffer =
             into-answered scratched
             (none-into buffer (path-none b list (subst (Closes b list a₃ (scratchAt n l) n) e closes)))
@@ -120,7 +120,7 @@ module _ {b a : List ℕ} {n l p count : ℕ} (usable : Usable b a n l p) (liste
           pub near : d ≤ 512
           near = omega (arith, closes-so .distance, closes-at b list (closes-so .first) .below, usable .read .nodes, usable .read .few-nodes)
 
-          pub shows-long : (buffer : List ℕ) → length buffer < d + 2 → Shows a₃ (refused 11 (d + 2)) buffer buffer
+          pub shows-long : (buffer : List ℕ) → length buffer < d + 2 → Shows b list n l p a a₃ [] (refused 11 (d + 2)) buffer buffer
           shows-long buffer h = into-answered scratched (long-into buffer is long h)
 
           is-sound : Sound b
@@ -135,7 +135,7 @@ module _ {b a : List ℕ} {n l p count : ℕ} (usable : Usable b a n l p) (liste
               (fed-way is-sound (usable .read .nodes) (closes-so .told) d (omega arith) end (smallest .fed))
 
           pub shows-path : (buffer : List ℕ) → d + 2 ≤ length buffer → {after : List ℕ}
-              → after ≡ sets buffer 0 (wayTold b a₃ (scratchAt n l) n (d + 1) end) → Shows a₃ (answered (steps (d + 2))) buffer after
+              → after ≡ sets buffer 0 (wayTold b a₃ (scratchAt n l) n (d + 1) end) → Shows b list n l p a a₃ [] (answered (steps (d + 2))) buffer after
           shows-path buffer h written =
               into-answered scratched
               (fit-into buffer is long h
@@ -147,14 +147,7 @@ module _ {b a : List ℕ} {n l p count : ℕ} (usable : Usable b a n l p) (liste
 -- ---- from the list itself
 
 pub list-shows : {b a : List ℕ} {n l p : ℕ} → Usable b a n l p → {list : List ℕ} {count : ℕ} {m : List ℕ} → AllNodes n list (scratchAt n l) count m
-    → Scratched n l p a m → {o : List ℕ} {said : Answer Shown} {buffer after : List ℕ}
-    → AnsweredInto n l p m o said (rule11 (length buffer) (length (stepsOf (backPath b (listIn m n l count)))) ∷ []) (shownOf (backPath b (listIn m n l count))) buffer after
-    (stepsOf (backPath b (listIn m n l count)))
-    → AnsweredInto n l p a o said (lineRules b list ++ (rule11 (length buffer) (length (stepsOf (backPath b list))) ∷ [])) (shownOf (backPath b list)) buffer after
-    (stepsOf (backPath b list))
+    → Scratched n l p a m → {o : List ℕ} {said : Answer Shown} {buffer after : List ℕ} → Shows b (listIn m n l count) n l p m o [] said buffer after
+    → Shows b list n l p a o (lineRules b list) said buffer after
 list-shows {b} {n = n} {l} {p} usable {m = m} nodes kept {o} {said} {buffer} {after} got =
-    list-into usable nodes kept
-    (subst
-    (λ (xs : List ℕ).
-    AnsweredInto n l p m o said (rule11 (length buffer) (length (stepsOf (backPath b xs))) ∷ []) (shownOf (backPath b xs)) buffer after (stepsOf (backPath b xs)))
-    (nodes .stands) got)
+    list-into usable nodes kept (subst (λ (xs : List ℕ). Shows b xs n l p m o [] said buffer after) (nodes .stands) got)

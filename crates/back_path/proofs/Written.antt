@@ -8,7 +8,7 @@ use mathlib.Core.Bool.{true}
 use mathlib.Core.List.{List, [], _∷_}
 use lib.ListN.{length, length-append, set}
 use lib.Seq.{sets}
-use Rattle.lists.specs.Lists.{any, keep}
+use Rattle.lists.specs.Lists.{any, keep, least}
 use Rattle.lists.proofs.Sections.{sets-snoc}
 use Rattle.lists.proofs.Members.{member-below}
 use Rattle.order_theory.proofs.Refusals.{sound}
@@ -43,7 +43,8 @@ module _ {b a : List ℕ} {n queue : ℕ} {at : Places} (st : Standing b a n que
     before-known =
         let s = sound b (st .linked .links) in
         let w = marked-source s a queue n v (d - 1) before-there in
-        let there = kept (λ x. tells a queue n x (d - 1)) (stepTold b a queue n (d - 1) v) (inNeighbours b v) (least-in (w .0) (keep (λ x. tells a queue n x (d - 1)) (inNeighbours b v)) (w .1)) .1 in
+        let marked = keep (λ x. tells a queue n x (d - 1)) (inNeighbours b v) in
+        let there = kept (λ x. tells a queue n x (d - 1)) (least marked) (inNeighbours b v) (least-in (w .0) marked (w .1)) .1 in
         omega (arith, read, member-below (sources-known s v) (in-mem (inNeighbours b v) there), st .linked .read .nodes)
 
 -- ---- what is written

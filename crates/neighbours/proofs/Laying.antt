@@ -3,7 +3,7 @@
 use Prim.Native.Nat.{ℕ, _+_, _≤_, _<_}
 use native.Mathlib.Omega.{arith}
 use mathlib.Core.Path.{_≡_, refl, sym, ap, _∙_, subst}
-use mathlib.Core.Logic.{_⊎_, inl, inr}
+use mathlib.Core.Logic.{inl, inr}
 use mathlib.Core.List.{List, map}
 use lib.ListN.{length}
 use lib.Seq.{sets, length-sets}
@@ -112,13 +112,12 @@ module _ {b a : List ℕ} {n l p at : ℕ} (free : Free b a n l p at) where
           }
 
       module _ {a₃ : List ℕ} (e₃ : a₃ ≡ byPort a₂ keys backs sources (map (targetPort b) (upto l)) p) where
-        stands : (place many : ℕ) → (place + many ≤ keys) ⊎ (starts ≤ place) → place + many ≤ backs → part a₃ place many ≡ part a₂ place many
+        kept₃ : Within at (linkedSize n l p) a₂ a₃
+        kept₃ = only-here roomy-in (targetPort b) target-low e₃ at (linkedSize n l p) (omega arith) (omega arith)
+
+        stands : (place many : ℕ) → Disjoint place many keys l → place + many ≤ backs → part a₃ place many ≡ part a₂ place many
         stands place many off high =
-            others-stand roomy-in (targetPort b) target-low e₃ place many (side off) (inl high) (omega (arith, long₂, free .room))
-          where
-            side : (place + many ≤ keys) ⊎ (starts ≤ place) → Disjoint place many keys l
-            side (inl h) = inl h
-            side (inr h) = inr h
+            others-stand roomy-in (targetPort b) target-low e₃ place many off (inl high) (omega (arith, long₂, free .room))
 
         linked : Linked b a₃ n (record { firsts = at; starts = starts; sorted = sorted; backs = backs; sources = sources })
         linked =
@@ -140,16 +139,11 @@ module _ {b a : List ℕ} {n l p at : ℕ} (free : Free b a n l p at) where
               backs-stand = starts-read (targetPort b) a₃ backs (starts-stand roomy-in (targetPort b) target-low e₃);
               sources-stand = sorted-read (targetPort b) a₃ sources (sorted-stand roomy-in (targetPort b) target-low e₃);
             }
-          where
-            kept₃ : Within at (linkedSize n l p) a₂ a₃
-            kept₃ = only-here roomy-in (targetPort b) target-low e₃ at (linkedSize n l p) (omega arith) (omega arith)
 
         pub laying : Laying b a n l p at (record { firsts = at; starts = starts; sorted = sorted; backs = backs; sources = sources }) a₃
         laying =
             record {
               linked = linked;
               first = refl;
-              kept =
-                  within-both (within-both kept₁ kept₂)
-                  (only-here roomy-in (targetPort b) target-low e₃ at (linkedSize n l p) (omega arith) (omega arith));
+              kept = within-both (within-both kept₁ kept₂) kept₃;
             }

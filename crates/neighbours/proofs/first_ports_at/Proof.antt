@@ -14,9 +14,12 @@ use Rattle.neighbours.proofs.first_ports_at.Tie as tie
 
 returns : tie.Need-returns
 returns c =
-    lent (c .before .before .before .before .before .before .args .area .now) (c .before .before .before .before .before .before .args .firsts) (c .before .before .before .before .before .before .args .firsts + (c .before .before .before .before .before .before .args .n + 1) - c .before .before .before .before .before .before .args .firsts)
-    (map (firstPort (c .before .before .before .before .before .before .args .b .now)) (upto (c .before .before .before .before .before .before .args .n + 1)))
-    (length-table (firstPort (c .before .before .before .before .before .before .args .b .now)) (c .before .before .before .before .before .before .args .n + 1) ∙ omega arith) (omega (arith, c .before .before .before .before .before .before .pre .1)) (c .before .before .first-ports .ensures)
+    let start = c .before .before .before .before .before .before in
+    let n = start .args .n in
+    let firsts = start .args .firsts in
+    let table = map (firstPort (start .args .b .now)) (upto (n + 1)) in
+    lent (start .args .area .now) firsts (firsts + (n + 1) - firsts) table (length-table (firstPort (start .args .b .now)) (n + 1) ∙ omega arith)
+    (omega (arith, start .pre .1)) (c .before .before .first-ports .ensures)
 
 pub first-ports-at-spec : {M : Type 1} → statement M
 first-ports-at-spec =

@@ -7,16 +7,27 @@ use Rattle.neighbours.proofs.lay_links.Statement.{statement}
 use Rattle.neighbours.proofs.lay_links.Tie as tie
 
 first-ports-at-requires : tie.Need-first-ports-at-requires
-first-ports-at-requires c κs = (numbered (c .before .before .before .pre .read), firsts-fit (c .before .before .before .pre))
+first-ports-at-requires c κs =
+    let start = c .before .before .before in
+    (numbered (start .pre .read), firsts-fit (start .pre))
 
 links-by-output-requires : tie.Need-links-by-output-requires
-links-by-output-requires c κs = roomy-out (c .before .before .before .before .before .before .before .pre) (c .before .before .before .first-ports-at .ensures)
+links-by-output-requires c κs =
+    let firsts = c .before .before .before in
+    roomy-out (firsts .before .before .before .before .pre) (firsts .first-ports-at .ensures)
 
 links-by-input-requires : tie.Need-links-by-input-requires
-links-by-input-requires c κs = roomy-in (c .before .before .before .before .before .before .before .before .before .before .before .pre) (c .before .before .before .before .before .before .before .first-ports-at .ensures) (c .before .before .before .links-by-output .ensures)
+links-by-input-requires c κs =
+    let outputs = c .before .before .before in
+    let firsts = outputs .before .before .before .before in
+    roomy-in (firsts .before .before .before .before .pre) (firsts .first-ports-at .ensures) (outputs .links-by-output .ensures)
 
 returns : tie.Need-returns
-returns c = laying (c .before .before .before .before .before .before .before .before .before .before .before .before .before .before .pre) (c .before .before .before .before .before .before .before .before .before .before .first-ports-at .ensures) (c .before .before .before .before .before .before .links-by-output .ensures) (c .before .before .links-by-input .ensures)
+returns c =
+    let inputs = c .before .before in
+    let outputs = inputs .before .before .before .before in
+    let firsts = outputs .before .before .before .before in
+    laying (firsts .before .before .before .before .pre) (firsts .first-ports-at .ensures) (outputs .links-by-output .ensures) (inputs .links-by-input .ensures)
 
 pub lay-links-spec : {M : Type 1} → statement M
 lay-links-spec =

@@ -24,7 +24,9 @@ abbrev asked : ℕ → In 3 kinds.ps
 asked t = and 3 kinds.ps (falls 3 kinds.ps _<_ measure t) reads.Pre
 
 cast-buffer : (t : ℕ) → lts.Need-cast-buffer (step-before-reads.Asked, step-before-reads.Learnt, asked t, reads.Post) (given t) reads.Post
-cast-buffer t c = omega (arith, c .before .before .before .before .pre .1 .1 .0, c .before .before .before .before .pre .1 .0 .linked .read .few-nodes)
+cast-buffer t c =
+    let at = c .before .before .before .before in
+    omega (arith, at .pre .1 .1 .0, at .pre .1 .0 .linked .read .few-nodes)
 
 returns : (t : ℕ) → lts.Need-returns (step-before-reads.Asked, step-before-reads.Learnt, asked t, reads.Post) (given t) reads.Post
 returns t c = first-written _ _ _ _ _ _ (c .if1 .taken)
@@ -46,10 +48,14 @@ write-path-requires t c κs =
     )
 
 cast-buffer-2 : (t : ℕ) → lts.Need-cast-buffer-2 (step-before-reads.Asked, step-before-reads.Learnt, asked t, reads.Post) (given t) reads.Post
-cast-buffer-2 t c = omega (arith, c .before .before .before .before .before .before .before .before .before .pre .1 .1 .0, c .before .before .before .before .before .before .before .before .before .pre .1 .0 .linked .read .few-nodes)
+cast-buffer-2 t c =
+    let at = c .before .before .before .before .before .before .before .before .before in
+    omega (arith, at .pre .1 .1 .0, at .pre .1 .0 .linked .read .few-nodes)
 
 returns-2 : (t : ℕ) → lts.Need-returns-2 (step-before-reads.Asked, step-before-reads.Learnt, asked t, reads.Post) (given t) reads.Post
-returns-2 t c = next-written _ _ _ _ _ _ (c .before .before .before .before .before .if1 .left) (c .before .before .before .before .step-before .ensures) (c .before .before .write-path .ensures)
+returns-2 t c =
+    let stepped = c .before .before .before .before in
+    next-written _ _ _ _ _ _ (stepped .before .if1 .left) (stepped .step-before .ensures) (c .before .before .write-path .ensures)
 
 pub +write-path-spec : {M : Type 1} → statement M
 +write-path-spec =
