@@ -1,7 +1,7 @@
 -- Intervals into a buffer of bytes: the records that fit a room of so many as the buffer has, or 2,560, are those that fit the buffer, and the
 -- questions on a list from bytes answer as those on its words.
 -- Rests on Few, Room and line_checker's IntervalsFound.
-use Prim.Native.Nat.{ℕ, _-_, _*_, _/_, _≤_, min}
+use Prim.Native.Nat.{ℕ, _-_, _*_, _/_, min}
 use native.Mathlib.Omega.{arith}
 use mathlib.Core.Path.{_≡_, refl, sym, ap, _∙_, subst}
 use mathlib.Core.List.{List, [], _∷_, _++_}
@@ -27,10 +27,10 @@ use Rattle.line_checker.specs.declared.list_intervals.IntervalsAnswer.the-varia
 use Rattle.line_checker.proofs.list_intervals.IntervalsAnswer.{the-type}
 use Rattle.line_checker.proofs.Answers.{intervalsSaid-injective}
 use Rattle.line_checker.proofs.IntervalsFound.{nodes-into}
-use Rattle.line_checker.proofs.Records.{Wrote, wrote-some}
+use Rattle.line_checker.proofs.Records.{wrote-some}
 use Rattle.byte_lists.proofs.Few.{few-needed, room-decides, long-enough}
 use Rattle.byte_lists.proofs.IntoBytes.{bytes-back, answer-told}
-use Rattle.byte_lists.proofs.Room.{InRoom, room-says, nothing-put, words-few, words-put}
+use Rattle.byte_lists.proofs.Room.{InRoom, room-says, nothing-put, words-put}
 
 -- 11 of some records and a buffer
 abbrev Rules : List ℕ → Records → List Ruling

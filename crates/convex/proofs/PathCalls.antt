@@ -1,7 +1,7 @@
 -- Showing the path, from the opening's answer and from the path on the opened area; and its promise.
 -- Rests on Calling and path_theory.
 use Prim.Native.Nat.{ℕ}
-use mathlib.Core.Path.{_≡_, sym, ap, subst}
+use mathlib.Core.Path.{_≡_, sym, subst}
 use mathlib.Core.Logic.{_≢_}
 use mathlib.Core.List.{List, [], _∷_, _++_}
 use lib.ListN.{length}
