@@ -12,3 +12,5 @@ pub mod Calls
 pub mod Counts
 pub mod Within
 pub mod Ports
+pub mod recorded
+pub mod collecting

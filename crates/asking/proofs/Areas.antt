@@ -1,5 +1,5 @@
 -- The area from list to list: a call leaves one that stands for the prepared area as before, and the calls answer on it as there.
--- Rests on trust_theory (a call keeps the words in use) and accepted_theory (they alone decide every call).
+-- Rests on convexity_theory (a call keeps the words in use) and accepted_theory (they alone decide every call).
 use Prim.Native.Nat.{ℕ}
 use native.Mathlib.Omega.{arith}
 use mathlib.Core.Path.{_≡_, sym, ap, _∙_, subst}
@@ -14,7 +14,7 @@ use Rattle.paper.specs.Calls.{Left, LeftWith, untouched, unprepared, prepare, c
 use Rattle.accepted_theory.specs.SameOutcomes.{SameOutcomes}
 use Rattle.accepted_theory.proofs.InUse.{back, onward}
 use Rattle.accepted_theory.proofs.Calls.{same-outcomes}
-use Rattle.trust_theory.proofs.Kept.{same-in-use, trust-kept}
+use Rattle.convexity_theory.proofs.trust.Kept.{same-in-use, trust-kept}
 use Rattle.asking.specs.Standing.{preparedArea, Standing}
 
 -- the prepared area has W words, also where the map is refused

@@ -1,5 +1,5 @@
 -- What `why` says of a list: there is room for every path, so that 11 never comes and the words hold its steps.
--- Rests on Areas, levels_theory (how long a path can be) and text's Printed.
+-- Rests on Areas, path_theory (how long a path can be) and text's Printed.
 use Prim.Native.Nat.{ℕ, _-_, _≤_, _<_}
 use native.Mathlib.Nat.{sub-zero}
 use native.Mathlib.Omega.{arith}
@@ -13,8 +13,8 @@ use Rattle.paper.specs.Path.{Path, path, noPath, Shown, backPath, stepsOf, show
 use Rattle.paper.specs.Calls.{opening, lineRules, callInto, pathAnswer, showPath}
 use Rattle.paper.specs.Text.{showWay, whySays}
 use Rattle.stepmap.proofs.Reading.{limits}
-use Rattle.trust_theory.proofs.Rules.{rule11-passes}
-use Rattle.levels_theory.proofs.Bounds.{few-steps}
+use Rattle.convexity_theory.proofs.trust.Rules.{rule11-passes}
+use Rattle.path_theory.proofs.levels.Bounds.{few-steps}
 use Rattle.text.specs.Printed.{Put}
 use Rattle.asking.specs.Standing.{preparedArea, Standing}
 use Rattle.asking.specs.Printed.{Printed}

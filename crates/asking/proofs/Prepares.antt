@@ -1,5 +1,5 @@
 -- The program prepares an area of at least 31,751 words, which is room for every map: the answer is that of an area of W words, and the words in
--- use are the same. Rests on lines_theory (what preparing writes is accepted) and trust_theory (what passes).
+-- use are the same. Rests on lines_theory (what preparing writes is accepted) and convexity_theory (what passes).
 use Prim.Native.Nat.{ℕ, _+_, _≤_, _<_}
 use native.Mathlib.Nat.{zero-add}
 use native.Mathlib.Omega.{arith}
@@ -20,8 +20,8 @@ use Rattle.lines_theory.proofs.Accepted.{prepared-accepted}
 use Rattle.stepmap.proofs.Reading.{limits, formed-size}
 use Rattle.accepted_theory.specs.InUse.{SameInUse}
 use Rattle.accepted_theory.proofs.InUse.{same-below}
-use Rattle.trust_theory.proofs.Rules.{rule1-passes, rule2-passes, rule3-passes, rule7-passes}
-use Rattle.trust_theory.proofs.Passing.{not-refused, each-passes, both-pass, opening-passes}
+use Rattle.convexity_theory.proofs.trust.Rules.{rule1-passes, rule2-passes, rule3-passes, rule7-passes}
+use Rattle.convexity_theory.proofs.trust.Passing.{not-refused, each-passes, both-pass, opening-passes}
 use Rattle.asking.specs.Standing.{preparedArea, Standing}
 
 -- an area of zeros with just the room

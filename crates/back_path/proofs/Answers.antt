@@ -1,5 +1,5 @@
 -- What is said of a path, and what stands in the buffer: that there is none, 11 where it does not fit, and else its steps alone.
--- Rests on intervals' Into and levels_theory's Bounds.
+-- Rests on intervals' Into and path_theory's Bounds.
 use Prim.Native.Nat.{ℕ, suc, _≤_, _<_}
 use native.Mathlib.Omega.{arith}
 use mathlib.Core.Path.{_≡_, refl, sym, ap, _∙_, subst}

@@ -18,8 +18,8 @@ use Rattle.paper.specs.Calls.{lineRules}
 use Rattle.order_theory.specs.Sound.{Sound}
 use Rattle.order_theory.proofs.Refusals.{sound}
 use Rattle.convexity_theory.proofs.Memberships.{in-mem, times-distinct}
-use Rattle.levels_theory.proofs.Levels.{SmallestEnd}
-use Rattle.levels_theory.proofs.Bounds.{closes-at, path-length}
+use Rattle.path_theory.proofs.levels.Levels.{SmallestEnd}
+use Rattle.path_theory.proofs.levels.Bounds.{closes-at, path-length}
 use Rattle.walk_theory.specs.Joined.{Joined}
 use Rattle.tables.specs.Answered.{AnsweredInto}
 use Rattle.tables.specs.Usable.{Usable, Scratched, scratchAt, scratchSize}

@@ -1,5 +1,5 @@
 -- Marks and distances that tell a list's levels tell the paper's step before and path.
--- Rests on levels_theory.
+-- Rests on path_theory.
 use Prim.Native.Nat.{ℕ, zero, suc, _≤_, _<_}
 use native.Mathlib.Omega.{arith}
 use mathlib.Core.Path.{_≡_, refl, sym, ap, _∙_, subst}
@@ -11,9 +11,9 @@ use Rattle.paper.specs.Map.{N}
 use Rattle.paper.specs.Path.{leads, levelAt, stepBefore, pathTo}
 use Rattle.order_theory.specs.Sound.{Sound}
 use Rattle.convexity_theory.proofs.Memberships.{in-mem, in-member, member-in, in-keep, kept, some-any}
-use Rattle.levels_theory.proofs.Levels.{Fed, linked-leads, level-next, step-before}
-use Rattle.levels_theory.proofs.Neighbours.{leads-in}
-use Rattle.levels_theory.proofs.Alike.{in-alike, least-alike}
+use Rattle.path_theory.proofs.levels.Levels.{Fed, linked-leads, level-next, step-before}
+use Rattle.path_theory.proofs.levels.Neighbours.{leads-in}
+use Rattle.path_theory.proofs.levels.Alike.{in-alike, least-alike}
 use Rattle.distances.specs.Met.{tells}
 use Rattle.distances.specs.Reached.{Told}
 use Rattle.back_path.specs.Ways.{inNeighbours, stepTold, wayTold, HasWay}

@@ -1,5 +1,5 @@
 -- The intervals of a list are few: one a line touched, and the largest map has 2,560 lines. So room for 2,560 decides 11 as any longer room does.
--- Rests on intervals_theory (the lines touched) and intervals' Cleared.
+-- Rests on accepted_theory (the lines touched) and intervals' Cleared.
 use Prim.Native.Nat.{ℕ, _≤_, _<_, min}
 use native.Mathlib.Decide.{decLt}
 use native.Mathlib.Omega.{arith}
@@ -14,7 +14,7 @@ use Rattle.lists.specs.Lists.{all}
 use Rattle.paper.specs.Calls.{needed}
 use Rattle.paper.specs.Intervals.{records, apart, interval, intervals, contiguous, touched}
 use Rattle.paper.specs.Refusals.{passed, refuse, rule11, decide}
-use Rattle.intervals_theory.proofs.Collected.{touched-few}
+use Rattle.accepted_theory.proofs.collecting.Collected.{touched-few}
 use Rattle.intervals.specs.Answer.{listIn}
 use Rattle.intervals.specs.Holds.{Listed}
 use Rattle.intervals.proofs.Cleared.{listing}

@@ -13,7 +13,7 @@ use Rattle.paper.specs.Calls.{Written, wrote, needed, said, wordsOf}
 use Rattle.paper.specs.Intervals.{Records, records, apart, intervals}
 use Rattle.paper.specs.Refusals.{Ruling, passed, rule9, rule10, rule11, wholeRecords, Answer, answered, answer, decide}
 use Rattle.paper.specs.Words.{wordsFrom, putWords}
-use Rattle.records_theory.proofs.Reading.{length-words}
+use Rattle.accepted_theory.proofs.recorded.Reading.{length-words}
 use Rattle.words.proofs.RoundTrip.{Below}
 use Rattle.words.proofs.Turns.{length-wordsFrom}
 use Rattle.take_in.proofs.Answers.{AllNodes}

@@ -1,5 +1,5 @@
 -- An answer into a buffer of words as an answer into a buffer of bytes: the words are read from the bytes, and what stands then is put back.
--- Rests on bytes_theory's Buffers.
+-- Rests on words's Buffers.
 use Prim.Native.Nat.{ℕ, _*_, _≤_}
 use native.Mathlib.Omega.{arith}
 use mathlib.Core.Path.{_≡_, refl, sym, ap, _∙_}
@@ -10,7 +10,7 @@ use Rattle.lists.proofs.Sections.{part-sets-in}
 use Rattle.paper.specs.Refusals.{Ruling, passed, refusal, Answer, refused, answered, answer, decide, onRefusal}
 use Rattle.paper.specs.Words.{wordsFrom, putWords}
 use Rattle.words.proofs.RoundTrip.{Below, read-and-put}
-use Rattle.bytes_theory.proofs.Buffers.{put-result}
+use Rattle.words.proofs.Buffers.{put-result}
 use Rattle.tables.specs.Answered.{AnsweredInto, AnsweredBytes}
 
 module _ {A : Type 0} {n l p : ℕ} {a m : List ℕ} {x : Answer A} {rules : List Ruling} {y : A} {bytes result : List ℕ} where

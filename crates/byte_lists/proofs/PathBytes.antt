@@ -1,5 +1,5 @@
 -- The path into a buffer of bytes: one that fits a room of so many steps as the buffer has, or 513, is one that fits the buffer, for no path has more.
--- Rests on levels_theory's Bounds, Few, Room and intervals' Taken.
+-- Rests on path_theory's Bounds, Few, Room and intervals' Taken.
 use Prim.Native.Nat.{ℕ, _-_, _/_, _≤_, min}
 use native.Mathlib.Omega.{arith}
 use mathlib.Core.Path.{_≡_, refl, sym, ap, _∙_, subst}
@@ -12,7 +12,7 @@ use Rattle.paper.specs.Calls.{lineRules}
 use Rattle.paper.specs.Path.{Path, path, noPath, Shown, steps, noSteps, backPath, stepsOf, shownOf}
 use Rattle.paper.specs.Refusals.{Ruling, passed, rule11, Answer, answered, answer, decide}
 use Rattle.paper.specs.Words.{wordsFrom, putWords}
-use Rattle.levels_theory.proofs.Bounds.{back-path-room}
+use Rattle.path_theory.proofs.levels.Bounds.{back-path-room}
 use Rattle.words.proofs.RoundTrip.{Below}
 use Rattle.words.proofs.Turns.{length-wordsFrom}
 use Rattle.take_in.proofs.Answers.{AllNodes}

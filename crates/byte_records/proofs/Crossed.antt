@@ -19,7 +19,7 @@ use Rattle.paper.specs.Refusals.{passed, refuse, Answer, rule8, rule9, rule11, 
 use Rattle.paper.specs.Calls.{needed}
 use Rattle.paper.specs.Words.{wordsFrom}
 use Rattle.accepted_theory.proofs.Alike.{Alike, in-the-end, next, same-answer}
-use Rattle.records_theory.proofs.Ruled.{allowed}
+use Rattle.accepted_theory.proofs.recorded.Ruled.{allowed}
 use Rattle.refusals.specs.declared.Refusal.the-variants.{BadRecord}
 use Rattle.records.specs.Tested.{Tested}
 use Rattle.records.specs.declared.Checked.the-variants.{Refused}

@@ -14,7 +14,7 @@ use Rattle.paper.specs.Refusals.{Ruling, passed, answered, answer, decide, rule
 use Rattle.paper.specs.Calls.{wrote, foundApart, said, wordsOf, needed}
 use Rattle.paper.specs.Words.{wordsFrom, putWords}
 use Rattle.accepted_theory.proofs.Alike.{Alike}
-use Rattle.records_theory.proofs.Reading.{length-words}
+use Rattle.accepted_theory.proofs.recorded.Reading.{length-words}
 use Rattle.refusals.proofs.Rulings.{head-passed}
 use Rattle.tables.specs.Answered.{AnsweredInto, AnsweredBytes}
 use Rattle.tables.specs.Usable.{Usable}

@@ -1,5 +1,5 @@
 -- Records that a node extends have each a line of their own, so there are no more of them than lines; and nodes in records are no more than
--- nodes. Rests on records_theory (what 12 and 13 let pass; the nodes in records) and lists.Compare.
+-- nodes. Rests on accepted_theory (what 12 and 13 let pass; the nodes in records) and lists.Compare.
 use Prim.Native.Nat.{ℕ, _+_, _-_, _≤_, _<_}
 use native.Mathlib.Decide.{ℕ-discrete}
 use native.Mathlib.Omega.{arith}
@@ -20,9 +20,9 @@ use Rattle.paper.specs.Records.{along, nextBelow, nextAbove, grow, behind, exte
 use Rattle.paper.specs.Calls.{needed}
 use Rattle.accepted_theory.specs.Every.{Every}
 use Rattle.accepted_theory.specs.SameTables.{KnownLine}
-use Rattle.records_theory.specs.Allowed.{lines, Allowed}
-use Rattle.records_theory.proofs.Among.{distinct-few}
-use Rattle.records_theory.proofs.Sorted.{nodes-known, nodes-once}
+use Rattle.accepted_theory.specs.recorded.Allowed.{lines, Allowed}
+use Rattle.accepted_theory.proofs.recorded.Among.{distinct-few}
+use Rattle.accepted_theory.proofs.recorded.Sorted.{nodes-known, nodes-once}
 
 -- how many records have line j
 abbrev having : ℕ → Records → ℕ

@@ -1,5 +1,5 @@
 -- The first records of a caller's bytes, read into a room, stand there, and in each part of the room that is long enough.
--- Rests on Enough, bytes_theory's Buffers and lists.Sections.
+-- Rests on Enough, words's Buffers and lists.Sections.
 use Prim.Native.Nat.{ℕ, _+_, _-_, _*_, _/_, _≤_, _<_, min}
 use native.Mathlib.Omega.{arith}
 use mathlib.Core.Path.{_≡_, sym, ap, _∙_, subst}
@@ -11,7 +11,7 @@ use Rattle.paper.specs.Records.{recordAt}
 use Rattle.paper.specs.Refusals.{wholeRecords}
 use Rattle.paper.specs.Words.{wordsFrom}
 use Rattle.words.proofs.Turns.{length-wordsFrom}
-use Rattle.bytes_theory.proofs.Buffers.{take-words}
+use Rattle.words.proofs.Buffers.{take-words}
 use Rattle.byte_records.proofs.Enough.{FirstRecords}
 
 -- records are the same where their words are

@@ -1,5 +1,5 @@
 -- An answer by words in a room, and what stands then in a caller's bytes: nothing is put there on a refusal, and else the result alone.
--- Rests on accepted_theory's Alike, line_checker's Into and bytes_theory's Buffers.
+-- Rests on accepted_theory's Alike, line_checker's Into and words's Buffers.
 use Prim.Native.Nat.{ℕ, _*_, _≤_, _<_}
 use native.Mathlib.Decide.{decLt}
 use native.Mathlib.Omega.{arith}
@@ -14,7 +14,7 @@ use Rattle.accepted_theory.proofs.Alike.{Alike, same-answer, same-kept}
 use Rattle.refusals.proofs.Rulings.{no-refusal}
 use Rattle.tables.specs.Answered.{AnsweredInto, AnsweredBytes}
 use Rattle.words.proofs.RoundTrip.{Below, read-and-put}
-use Rattle.bytes_theory.proofs.Buffers.{put-result}
+use Rattle.words.proofs.Buffers.{put-result}
 use Rattle.intervals.proofs.Into.{too-long}
 
 -- 11 passes: the result fits

@@ -1,5 +1,5 @@
 -- The checks' answers keep demand 3's promise: each is the answer of the paper's call.
--- Rests on trust_theory.
+-- Rests on convexity_theory.
 use Prim.Native.Nat.{ℕ}
 use mathlib.Core.Path.{_≡_, sym, ap, subst}
 use mathlib.Core.List.{List}
@@ -16,7 +16,7 @@ use Rattle.paper.specs.Promise.{
   LinePortsPromise,
   OrderPortsPromise,
 }
-use Rattle.trust_theory.proofs.Promise.{line-promise, order-promise, line-ports-promise, order-ports-promise}
+use Rattle.convexity_theory.proofs.trust.Promise.{line-promise, order-promise, line-ports-promise, order-ports-promise}
 
 -- the answer that a call leaves
 answers : {A : Type 0} {said : Answer A} {m : List ℕ} {left : Left A} → record { answer = said; area = m } ≡ left → left .answer ≡ said

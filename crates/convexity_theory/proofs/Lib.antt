@@ -10,3 +10,5 @@ pub mod Ended
 pub mod Numbers
 pub mod Convexity
 pub mod Instances
+pub mod places
+pub mod trust

@@ -1,3 +1,4 @@
 pub mod Lined
 pub mod Fits
 pub mod Walked
+pub mod places

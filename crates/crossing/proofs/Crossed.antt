@@ -1,5 +1,5 @@
 -- What each call leaves of a whole area, by what it leaves of the words that cross; and which bytes are read and put back.
--- Rests on Cut and on bytes_theory.
+-- Rests on Cut and on words.
 use Prim.Native.Nat.{ℕ, _/_, _≤_, _<_}
 use native.Mathlib.Decide.{decLt}
 use native.Mathlib.Omega.{arith}
@@ -32,7 +32,7 @@ use Rattle.paper.specs.Calls.{
 use Rattle.paper.specs.Words.{wordsFrom, putWords}
 use Rattle.words.proofs.Turns.{length-wordsFrom}
 use Rattle.words.proofs.RoundTrip.{Below}
-use Rattle.bytes_theory.proofs.Buffers.{put-longer, take-words}
+use Rattle.words.proofs.Buffers.{put-longer, take-words}
 use Rattle.crossing.proofs.Cut.{cut, rest, outcomes-cut, after-cut, prepared-cut}
 
 pub record Crosses {A : Type 0} (a : List ℕ) (whole part : Left A) : Type 0 where

@@ -1,5 +1,5 @@
 -- Round by round: the distances before do not close, and what the search for an end says of the last one.
--- Rests on Reaching, Smallest and levels_theory (Bounds, Alike).
+-- Rests on Reaching, Smallest and path_theory (Bounds, Alike).
 use Prim.Native.Nat.{ℕ, suc, _+_, _-_, _≤_, _<_}
 use native.Mathlib.Decide.{decLt}
 use native.Mathlib.Numerals.{add-one}
@@ -13,11 +13,11 @@ use Rattle.lists.proofs.Sections.{part}
 use Rattle.paper.specs.Map.{N}
 use Rattle.paper.specs.Path.{fedBy, levelAt, endsAt}
 use Rattle.order_theory.specs.Sound.{Sound}
-use Rattle.records_theory.proofs.Among.{same-truth}
+use Rattle.accepted_theory.proofs.recorded.Among.{same-truth}
 use Rattle.convexity_theory.proofs.Memberships.{in-mem, mem-in, in-member, member-in, in-keep, kept, any-some, some-any}
-use Rattle.levels_theory.proofs.Levels.{level-zero, nobody}
-use Rattle.levels_theory.proofs.Alike.{Alike}
-use Rattle.levels_theory.proofs.Bounds.{closes, never-closes}
+use Rattle.path_theory.proofs.levels.Levels.{level-zero, nobody}
+use Rattle.path_theory.proofs.levels.Alike.{Alike}
+use Rattle.path_theory.proofs.levels.Bounds.{closes, never-closes}
 use Rattle.tables.specs.Within.{Within}
 use Rattle.tables.proofs.Within.{within-none, within-both}
 use Rattle.distances.specs.Met.{metSize, tells, listedOf, Joins}

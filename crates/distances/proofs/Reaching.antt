@@ -1,5 +1,5 @@
 -- From one distance to the next: what joined in a round are the steps one farther.
--- Rests on Joining, levels_theory (Levels, Neighbours, Alike) and lists.
+-- Rests on Joining, path_theory (Levels, Neighbours, Alike) and lists.
 use Prim.Native.Nat.{ℕ, suc, _+_, _-_, _≤_, _<_}
 use native.Mathlib.Decide.{decLt, ℕ-discrete}
 use native.Mathlib.Numerals.{add-one}
@@ -20,9 +20,9 @@ use Rattle.paper.specs.Map.{N}
 use Rattle.paper.specs.Path.{leads, fedBy, rounds, levelAt}
 use Rattle.order_theory.specs.Sound.{Sound}
 use Rattle.convexity_theory.proofs.Memberships.{member-in}
-use Rattle.levels_theory.proofs.Levels.{fed-by, level-zero, met-zero, met-next, level-member, level-next}
-use Rattle.levels_theory.proofs.Neighbours.{fed-out}
-use Rattle.levels_theory.proofs.Alike.{any-alike}
+use Rattle.path_theory.proofs.levels.Levels.{fed-by, level-zero, met-zero, met-next, level-member, level-next}
+use Rattle.path_theory.proofs.levels.Neighbours.{fed-out}
+use Rattle.path_theory.proofs.levels.Alike.{any-alike}
 use Rattle.distances.specs.Met.{tells, ListMarked, Joins}
 use Rattle.distances.specs.Reached.{Reached, targetsIn}
 use Rattle.distances.proofs.Joining.{member-append, member-joinAll, joins-rise, joins-keep}

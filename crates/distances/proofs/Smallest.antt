@@ -1,5 +1,5 @@
 -- The smallest of a list found piece by piece, and that it is the least of any list with the same members.
--- Rests on levels_theory.Alike (lists with the same members).
+-- Rests on path_theory.Alike (lists with the same members).
 use Prim.Native.Nat.{ℕ, _<_, _≤_, min}
 use native.Mathlib.Omega.{arith}
 use mathlib.Core.Path.{_≡_, refl, sym, ap, _∙_}
@@ -9,7 +9,7 @@ use borrow.Author.Tests.{eq-eqb}
 use Rattle.lists.specs.Lists.{member, least}
 use Rattle.lists.specs.Found.{Found, absent, at, listed}
 use Rattle.lists.proofs.Upto.{keep-append}
-use Rattle.levels_theory.proofs.Alike.{Alike, least-alike}
+use Rattle.path_theory.proofs.levels.Alike.{Alike, least-alike}
 use Rattle.distances.specs.Met.{tells, listedOf}
 use Rattle.distances.specs.Smallest.{smallest, smallestSaid}
 use Rattle.distances.specs.declared.closing.Smallest.{Smallest}

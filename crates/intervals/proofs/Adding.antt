@@ -1,5 +1,5 @@
 -- A position added to a line, in words: a line that was never added gets the next record, and any other has its record widened.
--- Rests on Buffer and on intervals_theory's laws of `add`.
+-- Rests on Buffer and on accepted_theory's laws of `add`.
 use Prim.Native.Nat.{ℕ, _+_, _*_, _≤_, _<_}
 use native.Mathlib.Decide.{ℕ-discrete, decLt}
 use native.Mathlib.Omega.{arith}
@@ -16,10 +16,10 @@ use Rattle.lists.proofs.First.{FirstOf}
 use Rattle.lists.proofs.Places.{times-place, place-known}
 use Rattle.paper.specs.Intervals.{Interval}
 use Rattle.paper.specs.Records.{recordAt}
-use Rattle.intervals_theory.specs.SmallMap.{Held, widened, add}
-use Rattle.intervals_theory.specs.Collected.{countOn, fresh, linesIn, slot}
-use Rattle.intervals_theory.proofs.Add.{add-new, add-there, slot-absent, slot-at}
-use Rattle.intervals_theory.proofs.Sized.{count-add, count-nowhere, sized-add, sized-room}
+use Rattle.accepted_theory.specs.collecting.SmallMap.{Held, widened, add}
+use Rattle.accepted_theory.specs.collecting.Collected.{countOn, fresh, linesIn, slot}
+use Rattle.accepted_theory.proofs.collecting.Add.{add-new, add-there, slot-absent, slot-at}
+use Rattle.accepted_theory.proofs.collecting.Sized.{count-add, count-nowhere, sized-add, sized-room}
 use Rattle.tables.proofs.Within.{within-none, within-set}
 use Rattle.intervals.specs.Holds.{Adding, Became, Holds, intervalOf, putRecord, widenedTo}
 use Rattle.intervals.proofs.Buffer.{record-put, record-other}

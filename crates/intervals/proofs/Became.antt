@@ -5,7 +5,7 @@ use mathlib.Core.Path.{_≡_, _∙_, refl, subst}
 use mathlib.Core.Logic.{inl}
 use mathlib.Core.List.{List}
 use lib.ListN.{getD}
-use Rattle.intervals_theory.specs.SmallMap.{Held}
+use Rattle.accepted_theory.specs.collecting.SmallMap.{Held}
 use Rattle.tables.proofs.Within.{within-none, within-both}
 use Rattle.intervals.specs.Holds.{Became, Holds}
 

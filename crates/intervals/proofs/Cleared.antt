@@ -10,9 +10,9 @@ use lib.Seq.{sets}
 use Rattle.lists.specs.Lists.{Distinct}
 use Rattle.lists.proofs.Sections.{part, length-part, getD-part, getD-sets-in, getD-sets-out, part-sets-out}
 use Rattle.paper.specs.Map.{N}
-use Rattle.intervals_theory.specs.Collected.{Listing, countOn}
-use Rattle.intervals_theory.proofs.Laws.{below-places, in-below}
-use Rattle.intervals_theory.proofs.Sized.{sized-none}
+use Rattle.accepted_theory.specs.collecting.Collected.{Listing, countOn}
+use Rattle.accepted_theory.proofs.collecting.Laws.{below-places, in-below}
+use Rattle.accepted_theory.proofs.collecting.Sized.{sized-none}
 use Rattle.tables.specs.Within.{Within}
 use Rattle.tables.specs.Usable.{Usable, Scratched, scratchAt, scratchSize}
 use Rattle.tables.proofs.Within.{within-none, within-sets}

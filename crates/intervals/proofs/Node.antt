@@ -8,10 +8,10 @@ use lib.ListN.{length, getD, take, length-take}
 use lib.Seq.{take-suc, take-all}
 use lib.Dec.{eqb}
 use Rattle.paper.specs.Area.{linesOf}
-use Rattle.intervals_theory.specs.SmallMap.{Held, add, addLines}
-use Rattle.intervals_theory.proofs.Laws.{count-most}
-use Rattle.intervals_theory.proofs.Add.{addLines-snoc}
-use Rattle.intervals_theory.proofs.Sized.{count-lines}
+use Rattle.accepted_theory.specs.collecting.SmallMap.{Held, add, addLines}
+use Rattle.accepted_theory.proofs.collecting.Laws.{count-most}
+use Rattle.accepted_theory.proofs.collecting.Add.{addLines-snoc}
+use Rattle.accepted_theory.proofs.collecting.Sized.{count-lines}
 use Rattle.tables.specs.Usable.{positionsAt, nodeStartsAt, linesAt, entriesOf}
 use Rattle.tables.proofs.Words.{count-few, lines-are, lines-long, lines-end, line-word, line-known}
 use Rattle.intervals.specs.Holds.{Adding, AddingNode, Became, Holds, NodeTurn, addWordsOf, slotsAt}

@@ -1,5 +1,5 @@
 -- The positions of a list's nodes added node by node.
--- Rests on Became, on tables' Usable (the tables stand while scratch is written) and on intervals_theory's counts.
+-- Rests on Became, on tables' Usable (the tables stand while scratch is written) and on accepted_theory's counts.
 use Prim.Native.Nat.{ℕ, _+_, _*_, _≤_, _<_}
 use native.Mathlib.Numerals.{add-one}
 use native.Mathlib.Omega.{arith}
@@ -10,10 +10,10 @@ use lib.Seq.{getD-take, take-suc, take-all}
 use Rattle.lists.specs.Lists.{In}
 use Rattle.lists.proofs.Sections.{part, length-part, getD-part}
 use Rattle.paper.specs.Map.{N}
-use Rattle.intervals_theory.specs.SmallMap.{Held, addLines, addNodes}
-use Rattle.intervals_theory.specs.Collected.{countOn}
-use Rattle.intervals_theory.proofs.Laws.{below-places, in-below}
-use Rattle.intervals_theory.proofs.Sized.{count-nodes, count-most-nodes}
+use Rattle.accepted_theory.specs.collecting.SmallMap.{Held, addLines, addNodes}
+use Rattle.accepted_theory.specs.collecting.Collected.{countOn}
+use Rattle.accepted_theory.proofs.collecting.Laws.{below-places, in-below}
+use Rattle.accepted_theory.proofs.collecting.Sized.{count-nodes, count-most-nodes}
 use Rattle.tables.specs.Usable.{Usable, Scratched, scratchAt, positionsAt, nodeStartsAt, linesAt, entriesOf}
 use Rattle.tables.proofs.Within.{within-wider}
 use Rattle.tables.proofs.Words.{position-is, lines-are}

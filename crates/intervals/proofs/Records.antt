@@ -1,5 +1,5 @@
 -- The records that stand for a list's small map: each is a touched line's, can be tested, and its test is `fills`.
--- Rests on intervals_theory's Collected and Intervals, and on on_line's Along.
+-- Rests on accepted_theory's Collected and Intervals, and on on_line's Along.
 use Prim.Native.Nat.{ℕ, zero, suc, _+_, _*_, _≤_, _<_}
 use native.Mathlib.Omega.{arith}
 use mathlib.Core.Path.{_≡_, refl, sym, ap, ap₂, _∙_, subst}
@@ -14,12 +14,12 @@ use Rattle.paper.specs.Area.{K, position, nodesOf}
 use Rattle.paper.specs.Intervals.{Interval, touched, interval}
 use Rattle.accepted_theory.specs.SameTables.{KnownNode, SameTables}
 use Rattle.accepted_theory.proofs.Every.{map-every}
-use Rattle.intervals_theory.specs.SmallMap.{Held, addNodes, fills}
-use Rattle.intervals_theory.specs.Collected.{Listing, held, fresh, countOn}
-use Rattle.intervals_theory.proofs.Laws.{all-in, all-map, in-below}
-use Rattle.intervals_theory.proofs.Sized.{count-nodes, count-most-nodes, count-place, place-line, sized-room}
-use Rattle.intervals_theory.proofs.Collected.{collected, touched-known}
-use Rattle.intervals_theory.proofs.Intervals.{lowest-on-line}
+use Rattle.accepted_theory.specs.collecting.SmallMap.{Held, addNodes, fills}
+use Rattle.accepted_theory.specs.collecting.Collected.{Listing, held, fresh, countOn}
+use Rattle.accepted_theory.proofs.collecting.Laws.{all-in, all-map, in-below}
+use Rattle.accepted_theory.proofs.collecting.Sized.{count-nodes, count-most-nodes, count-place, place-line, sized-room}
+use Rattle.accepted_theory.proofs.collecting.Collected.{collected, touched-known}
+use Rattle.accepted_theory.proofs.collecting.Intervals.{lowest-on-line}
 use Rattle.tables.specs.Usable.{Usable, Scratched}
 use Rattle.tables.proofs.Words.{count-few}
 use Rattle.tables.proofs.Usable.{still-usable, tables-still}

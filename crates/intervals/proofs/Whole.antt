@@ -1,5 +1,5 @@
 -- Collecting as a whole: the counts are set to 0, the list's nodes are added, and the records are tested.
--- Rests on Cleared, Nodes, Records and Words, on intervals_theory (the small map is 01's) and accepted_theory (intervals by the words in use).
+-- Rests on Cleared, Nodes, Records and Words, on accepted_theory (the small map is 01's) and accepted_theory (intervals by the words in use).
 use Prim.Native.Nat.{ℕ, _+_, _*_, _≤_}
 use native.Mathlib.Omega.{arith}
 use mathlib.Core.Path.{_≡_, refl, sym, ap, _∙_, subst}
@@ -15,10 +15,10 @@ use Rattle.paper.specs.Calls.{wrote, said, wordsOf}
 use Rattle.accepted_theory.specs.Every.{Every}
 use Rattle.accepted_theory.specs.SameTables.{KnownNode}
 use Rattle.accepted_theory.proofs.Intervals.{intervals-same}
-use Rattle.intervals_theory.specs.SmallMap.{Held, addNodes, fills}
-use Rattle.intervals_theory.specs.Collected.{fresh}
-use Rattle.intervals_theory.proofs.Sized.{sized-room}
-use Rattle.intervals_theory.proofs.Intervals.{intervals-by-map}
+use Rattle.accepted_theory.specs.collecting.SmallMap.{Held, addNodes, fills}
+use Rattle.accepted_theory.specs.collecting.Collected.{fresh}
+use Rattle.accepted_theory.proofs.collecting.Sized.{sized-room}
+use Rattle.accepted_theory.proofs.collecting.Intervals.{intervals-by-map}
 use Rattle.tables.specs.Usable.{Usable, Scratched, scratchAt, scratchSize}
 use Rattle.tables.proofs.Within.{within-both, within-wider}
 use Rattle.tables.proofs.Usable.{tables-still}

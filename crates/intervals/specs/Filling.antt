@@ -1,5 +1,5 @@
 -- The test of a record: whether as many nodes as were added to its line fill its interval.
--- Rests on intervals_theory's `fills`, on on_line's Along and on Holds.
+-- Rests on accepted_theory's `fills`, on on_line's Along and on Holds.
 use Prim.Native.Nat.{ℕ, _+_, _-_, _*_, _≤_, _<_}
 use mathlib.Core.Path.{_≡_}
 use mathlib.Core.Bool.{Bool, true, _&&_}

@@ -1,5 +1,5 @@
 -- The small map as it stands in words: a record for each line in a buffer, and in scratch, by line, which record is its and its count.
--- Rests on intervals_theory's small map and on tables' Usable and Within.
+-- Rests on accepted_theory's small map and on tables' Usable and Within.
 use Prim.Native.Nat.{ℕ, _+_, _-_, _*_, _≤_, _<_, min, max}
 use mathlib.Core.Path.{_≡_}
 use mathlib.Core.List.{List, [], _∷_}
@@ -9,8 +9,8 @@ use Rattle.lists.specs.Lists.{Distinct}
 use Rattle.lists.proofs.Sections.{part}
 use Rattle.paper.specs.Intervals.{Interval}
 use Rattle.paper.specs.Records.{recordAt}
-use Rattle.intervals_theory.specs.SmallMap.{Held, addLines}
-use Rattle.intervals_theory.specs.Collected.{Sized, countOn, fresh, linesIn}
+use Rattle.accepted_theory.specs.collecting.SmallMap.{Held, addLines}
+use Rattle.accepted_theory.specs.collecting.Collected.{Sized, countOn, fresh, linesIn}
 use Rattle.tables.specs.Within.{Within}
 use Rattle.tables.specs.Usable.{Usable, scratchAt, positionsAt, nodeStartsAt, linesAt, entriesOf}
 

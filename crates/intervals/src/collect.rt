@@ -6,7 +6,7 @@ ghost use lib.ListN.{length};
 ghost use Rattle.lists.proofs.Sections.{part};
 ghost use Rattle.paper.specs.Records.{recordAt};
 ghost use Rattle.tables.specs.Usable.{scratchAt};
-ghost use Rattle.intervals_theory.specs.SmallMap.{add};
+ghost use Rattle.accepted_theory.specs.collecting.SmallMap.{add};
 ghost use Rattle.intervals.specs.Holds.{Adding, AddingNode, AddingNodes, Became, addWords, addWordsOf, intervalOf, putRecord, slotsAt, widenedTo};
 use words::section::word_at;
 

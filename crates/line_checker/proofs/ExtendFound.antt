@@ -13,7 +13,7 @@ use Rattle.paper.specs.Records.{extend, recordsIn}
 use Rattle.paper.specs.Refusals.{Ruling, passed, Answer, answered, refused, decide, rule9, rule11, rule12, rule13, wholeRecords}
 use Rattle.paper.specs.Calls.{Written, wrote, foundApart, said, wordsOf, needed}
 use Rattle.accepted_theory.proofs.Records.{extend-same}
-use Rattle.records_theory.proofs.Reading.{length-words}
+use Rattle.accepted_theory.proofs.recorded.Reading.{length-words}
 use Rattle.refusals.specs.Said.{ruled, refusedBy}
 use Rattle.refusals.specs.declared.Refusal.{Refusal}
 use Rattle.extension.specs.Extended.{ExtendsTo, extendedSaid}

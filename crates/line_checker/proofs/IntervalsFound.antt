@@ -13,7 +13,7 @@ use Rattle.paper.specs.Intervals.{Records, records, intervals, touched}
 use Rattle.paper.specs.Records.{wordsOfRecords}
 use Rattle.paper.specs.Refusals.{Ruling, passed, Answer, answered, refused, decide, refuse, earliest, rule9, rule10, rule11, wholeRecords}
 use Rattle.paper.specs.Calls.{Written, wrote, foundApart, said, wordsOf, needed}
-use Rattle.records_theory.proofs.Reading.{length-words}
+use Rattle.accepted_theory.proofs.recorded.Reading.{length-words}
 use Rattle.refusals.specs.Said.{ruled, refusedBy, ruling}
 use Rattle.refusals.specs.declared.Refusal.{Refusal}
 use Rattle.refusals.proofs.Rulings.{ruling-answer, first-decides}

@@ -9,7 +9,7 @@ use lib.Seq.{sets}
 use Rattle.paper.specs.Intervals.{Records, apart}
 use Rattle.paper.specs.Refusals.{rule11, wholeRecords, decide, Answer, answered, refused}
 use Rattle.paper.specs.Calls.{Written, wrote, foundApart, said, wordsOf, needed}
-use Rattle.records_theory.proofs.Reading.{length-words}
+use Rattle.accepted_theory.proofs.recorded.Reading.{length-words}
 use Rattle.intervals.proofs.Into.{Into, too-long, short-enough, into-refused, into-passed}
 use Rattle.line_checker.proofs.Records.{Wrote}
 

@@ -1,6 +1,6 @@
 -- The line check put together: the intervals of the nodes in the scratch, and the walk on the area after them, answer as on the area with
 -- the list; and that answers as the area that the question began with, whether the list was taken in from words or from bytes.
--- Rests on Records, records_theory (intervals pass 12) and accepted_theory (two areas with the same tables).
+-- Rests on Records, accepted_theory (intervals pass 12) and accepted_theory (two areas with the same tables).
 use Prim.Native.Nat.{ℕ, _*_, _≤_, _<_}
 use native.Mathlib.Omega.{arith}
 use mathlib.Core.Path.{_≡_, sym, ap, _∙_, subst}
@@ -20,8 +20,8 @@ use Rattle.accepted_theory.specs.SameTables.{KnownNode, KnownRecord, KnownRecor
 use Rattle.accepted_theory.proofs.Every.{every-below}
 use Rattle.accepted_theory.proofs.Intervals.{intervals-same, intervals-known}
 use Rattle.accepted_theory.proofs.Walk.{walk-same, lineCheck-same}
-use Rattle.records_theory.proofs.Passing.{intervals-pass-12}
-use Rattle.records_theory.proofs.Reading.{length-words}
+use Rattle.accepted_theory.proofs.recorded.Passing.{intervals-pass-12}
+use Rattle.accepted_theory.proofs.recorded.Reading.{length-words}
 use Rattle.tables.specs.Answered.{Answered}
 use Rattle.tables.specs.Usable.{Usable, Scratched, scratchAt}
 use Rattle.tables.specs.Recorded.{Recorded}

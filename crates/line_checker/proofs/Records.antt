@@ -1,5 +1,5 @@
 -- Records in a room's words: what was written is read back, and records that 12 lets pass are good, also on an area with the same tables.
--- Rests on records_theory and accepted_theory.
+-- Rests on accepted_theory and accepted_theory.
 use Prim.Native.Nat.{ℕ, _*_, _≤_, _<_}
 use native.Mathlib.Omega.{arith}
 use mathlib.Core.Path.{_≡_, refl, sym, ap, _∙_}
@@ -16,7 +16,7 @@ use Rattle.paper.specs.Records.{recordsIn, wordsOfRecords}
 use Rattle.paper.specs.Refusals.{passed, refusal, refuse, badRecord, rule12, wholeRecords}
 use Rattle.refusals.proofs.Rulings.{no-refusal}
 use Rattle.paper.specs.Calls.{wrote, foundApart, said}
-use Rattle.records_theory.proofs.Reading.{read-back, length-words}
+use Rattle.accepted_theory.proofs.recorded.Reading.{read-back, length-words}
 use Rattle.accepted_theory.specs.SameTables.{SameTables}
 use Rattle.accepted_theory.proofs.Records.{badRecord-same}
 use Rattle.tables.specs.Recorded.{Recorded}

@@ -1,5 +1,5 @@
 -- The path and the checks agree on every list that they answer, contiguous or not: "no path" exactly when the line check says yes, and the order check.
--- Rests on Promise and trust_theory's Promise and Unique.
+-- Rests on Promise and convexity_theory's Promise and Unique.
 use Prim.Native.Nat.{ℕ}
 use native.Mathlib.Omega.{arith}
 use mathlib.Core.Path.{_≡_, sym, _∙_}
@@ -12,8 +12,8 @@ use Rattle.paper.specs.Calls.{isNodeConvex, topoIsNodeConvex, showPath}
 use Rattle.paper.specs.Plain.{Convex}
 use Rattle.paper.specs.Promise.{Trusted, StepList, PathPromise, given, none, noRoom}
 use Rattle.paper.proofs.Promise.{never-answered, same-answer}
-use Rattle.trust_theory.proofs.Promise.{line-promise, order-promise}
-use Rattle.trust_theory.proofs.Unique.{line-yes, order-yes}
+use Rattle.convexity_theory.proofs.trust.Promise.{line-promise, order-promise}
+use Rattle.convexity_theory.proofs.trust.Unique.{line-yes, order-yes}
 use Rattle.path_theory.proofs.NoPath.{bent}
 use Rattle.path_theory.proofs.Promise.{path-promise}
 

@@ -15,7 +15,7 @@ use Rattle.paper.proofs.Recording.{mapBytes}
 use Rattle.paper.proofs.Cases.{mapA}
 use Rattle.paper.proofs.Plain.{bytesA, convex-1-2, not-convex-0-1-3}
 use Rattle.paper.proofs.Promise.{never-answered}
-use Rattle.levels_theory.proofs.Only.{the-path-once}
+use Rattle.path_theory.proofs.levels.Only.{the-path-once}
 use Rattle.path_theory.proofs.Promise.{path-answered-kept}
 use Rattle.path_theory.proofs.Agree.{path-none}
 use Rattle.path_theory.proofs.Unique.{path-said}

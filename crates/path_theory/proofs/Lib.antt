@@ -5,3 +5,4 @@ pub mod Refused
 pub mod Short
 pub mod Unique
 pub mod Instances
+pub mod levels

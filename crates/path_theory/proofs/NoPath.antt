@@ -1,5 +1,5 @@
 -- There is a path back exactly when the list is not convex: a path back passes a step outside, and a directed path that does so has one in it.
--- Rests on levels_theory (ways that return, and that what returns is found).
+-- Rests on path_theory (ways that return, and that what returns is found).
 use Prim.Native.Nat.{ℕ, _≤_}
 use native.Mathlib.Omega.{arith}
 use mathlib.Core.Path.{_≡_, refl, subst}
@@ -11,9 +11,9 @@ use Rattle.paper.specs.Plain.{Linked, DirectedPath, link, onward, Convex}
 use Rattle.paper.specs.Path.{Chain, BackPath, Path, path, noPath, backPath}
 use Rattle.order_theory.specs.Sound.{Sound}
 use Rattle.convexity_theory.proofs.Memberships.{decIn}
-use Rattle.levels_theory.proofs.Ways.{Way, begin, further, way-some}
-use Rattle.levels_theory.proofs.Returns.{Return, chain-first, chain-rest, return-path, back-path}
-use Rattle.levels_theory.proofs.Shortest.{path-found}
+use Rattle.path_theory.proofs.levels.Ways.{Way, begin, further, way-some}
+use Rattle.path_theory.proofs.levels.Returns.{Return, chain-first, chain-rest, return-path, back-path}
+use Rattle.path_theory.proofs.levels.Shortest.{path-found}
 
 -- ---- a path back is no convex list's
 

@@ -1,5 +1,5 @@
 -- The call keeps its promise, on any accepted tables: the path stands in the room, or is said to need more, and "no path" is said of a convex list alone.
--- Rests on NoPath, levels_theory and trust_theory's Passing.
+-- Rests on NoPath, path_theory and convexity_theory's Passing.
 use Prim.Native.Nat.{ℕ, _≤_, _<_}
 use native.Mathlib.Decide.{decLe}
 use native.Mathlib.Omega.{arith}
@@ -19,10 +19,10 @@ use Rattle.paper.specs.Plain.{Convex}
 use Rattle.paper.specs.Promise.{Trusted, StepList, PathPromise, given, none, noRoom}
 use Rattle.paper.proofs.Promise.{same-answer}
 use Rattle.refusals.proofs.Rulings.{then-decides}
-use Rattle.trust_theory.proofs.Rules.{rule11-passes}
-use Rattle.trust_theory.proofs.Passing.{answers, not-refused, trusted-sound, both-pass, line-passes}
-use Rattle.levels_theory.proofs.Shortest.{the-path}
-use Rattle.levels_theory.proofs.Only.{exactly-the-path}
+use Rattle.convexity_theory.proofs.trust.Rules.{rule11-passes}
+use Rattle.convexity_theory.proofs.trust.Passing.{answers, not-refused, trusted-sound, both-pass, line-passes}
+use Rattle.path_theory.proofs.levels.Shortest.{the-path}
+use Rattle.path_theory.proofs.levels.Only.{exactly-the-path}
 use Rattle.path_theory.proofs.NoPath.{no-path}
 
 one-rule : (u : Ruling) → decide (u ∷ []) ≡ u

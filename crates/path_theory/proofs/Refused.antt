@@ -1,5 +1,5 @@
 -- What is refused: the path refuses what the line check refuses, with its number and place, and else only by 11; and but for 8 and 10, which it
--- does not ask, so does the order check. Rests on refusals' Rulings and trust_theory's Passing.
+-- does not ask, so does the order check. Rests on refusals' Rulings and convexity_theory's Passing.
 use Prim.Native.Nat.{ℕ}
 use native.Mathlib.Omega.{arith}
 use mathlib.Core.Path.{_≡_, refl, sym, ap, _∙_}
@@ -16,8 +16,8 @@ use Rattle.paper.specs.Promise.{Trusted, StepList}
 use Rattle.paper.proofs.Promise.{never-answered}
 use Rattle.accepted_theory.proofs.Refusals.{not-passed}
 use Rattle.refusals.proofs.Rulings.{first-decides, then-decides}
-use Rattle.trust_theory.proofs.Rules.{rule8-passes}
-use Rattle.trust_theory.proofs.Passing.{line-passes}
+use Rattle.convexity_theory.proofs.trust.Rules.{rule8-passes}
+use Rattle.convexity_theory.proofs.trust.Passing.{line-passes}
 use Rattle.path_theory.proofs.Promise.{asks}
 
 -- ---- a refusal and the rule behind it

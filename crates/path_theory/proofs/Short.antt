@@ -1,5 +1,5 @@
 -- On an accepted map no path back has more steps than the map: its start and its end are two, as nothing goes round.
--- Rests on levels_theory's Bounds and trust_theory's Acyclic.
+-- Rests on path_theory's Bounds and convexity_theory's Acyclic.
 use Prim.Native.Nat.{ℕ, _≤_}
 use native.Mathlib.Omega.{arith}
 use mathlib.Core.Path.{_≡_, sym, subst}
@@ -11,9 +11,9 @@ use Rattle.paper.specs.Map.{N}
 use Rattle.paper.specs.Plain.{DirectedPath}
 use Rattle.paper.specs.Path.{Chain, BackPath, path, backPath}
 use Rattle.paper.specs.Promise.{Trusted, KnownSteps}
-use Rattle.trust_theory.proofs.Acyclic.{no-cycle}
-use Rattle.levels_theory.proofs.Bounds.{back-path-fits}
-use Rattle.levels_theory.proofs.Returns.{back-path}
+use Rattle.convexity_theory.proofs.trust.Acyclic.{no-cycle}
+use Rattle.path_theory.proofs.levels.Bounds.{back-path-fits}
+use Rattle.path_theory.proofs.levels.Returns.{back-path}
 use Rattle.path_theory.proofs.NoPath.{chain-path}
 
 module _ {b a : List ℕ} (t : Trusted b a) (list : List ℕ) (known : KnownSteps b list) where

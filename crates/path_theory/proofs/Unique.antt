@@ -1,5 +1,5 @@
 -- The promise says enough: two answers that keep it with one room are the same, and where a path is said, the path stands in the room.
--- Rests on levels_theory's Only and on NoPath.
+-- Rests on path_theory's Only and on NoPath.
 use Prim.Native.Nat.{ℕ, _≤_}
 use native.Mathlib.Omega.{arith}
 use mathlib.Core.Path.{_≡_, sym, ap, _∙_, subst}
@@ -9,7 +9,7 @@ use Rattle.paper.specs.Path.{ThePath, Shown, steps}
 use Rattle.paper.specs.Refusals.{Answer, refused, answered}
 use Rattle.paper.specs.Promise.{PathPromise, given, none, noRoom}
 use Rattle.paper.proofs.Promise.{never-answered}
-use Rattle.levels_theory.proofs.Only.{the-path-once}
+use Rattle.path_theory.proofs.levels.Only.{the-path-once}
 use Rattle.path_theory.proofs.NoPath.{bent}
 
 -- what stands in a room fits it

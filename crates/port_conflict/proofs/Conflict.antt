@@ -1,5 +1,5 @@
 -- The first-link rule of the definitions, link by link: ports conflict exactly if one link is the first of a listed output and has a listed
--- input at its other end. Rests on lists.First and records_theory.Among.
+-- input at its other end. Rests on lists.First and accepted_theory.Among.
 use Prim.Native.Nat.{ℕ, zero, suc, _<_}
 use native.Mathlib.Decide.{ℕ-discrete}
 use mathlib.Core.Path.{_≡_, refl, sym, ap, ap₂, _∙_}
@@ -15,7 +15,7 @@ use Rattle.lists.proofs.First.{FirstOf, first-at, first-is}
 use Rattle.lists.proofs.Upto.{upto-suc, keep-append}
 use Rattle.paper.specs.Map.{L, sourcePort, targetPort, portLinks}
 use Rattle.paper.specs.Ports.{otherEnd, firstOtherEnd, conflict}
-use Rattle.records_theory.proofs.Among.{same-truth, and-both, any-at, any-by, none-at, member-in, upto-at, upto-below}
+use Rattle.accepted_theory.proofs.recorded.Among.{same-truth, and-both, any-at, any-by, none-at, member-in, upto-at, upto-below}
 use Rattle.port_conflict.specs.FirstLinks.{touches, unlinked, joined, meets}
 
 -- ---- the head of a list of links

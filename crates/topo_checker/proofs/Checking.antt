@@ -1,5 +1,5 @@
 -- The order check from its steps: the marked places are the list's, and what each return says is 01's answer.
--- Rests on topo_theory (passing is 01's order check), tables.Usable and Laying.
+-- Rests on convexity_theory (passing is 01's order check), tables.Usable and Laying.
 use Prim.Native.Nat.{ℕ, _+_, _*_, _<_}
 use native.Mathlib.Omega.{arith}
 use mathlib.Core.Path.{_≡_, refl, sym, ap, ap₂, _∙_}
@@ -16,10 +16,10 @@ use Rattle.paper.specs.Refusals.{Ruling, passed, refusal, refuse, earliest, rul
 use Rattle.paper.specs.Calls.{orderRules}
 use Rattle.order_theory.proofs.Refusals.{sound}
 use Rattle.accepted_theory.proofs.OrderCheck.{orderCheck-same}
-use Rattle.topo_theory.specs.Passed.{passing}
-use Rattle.topo_theory.specs.Places.{nodeAt}
-use Rattle.topo_theory.proofs.Listed.{member-place}
-use Rattle.topo_theory.proofs.Together.{passing-is}
+use Rattle.convexity_theory.specs.places.Passed.{passing}
+use Rattle.convexity_theory.specs.places.Places.{nodeAt}
+use Rattle.convexity_theory.proofs.places.Listed.{member-place}
+use Rattle.convexity_theory.proofs.places.Together.{passing-is}
 use Rattle.tables.specs.Usable.{Usable, Scratched, scratchAt, scratchSize}
 use Rattle.tables.specs.Answered.{Answered}
 use Rattle.tables.proofs.Within.{within-none, within-both, within-wider}

@@ -1,5 +1,5 @@
--- Passing the places, from the words of the area to topo_theory's states: one place, then all of the range.
--- Rests on Neighbours, Nearby's contracts, and topo_theory (Passing, Ends).
+-- Passing the places, from the words of the area to convexity_theory's states: one place, then all of the range.
+-- Rests on Neighbours, Nearby's contracts, and convexity_theory (Passing, Ends).
 use Prim.Native.Nat.{ℕ, suc, _+_, _*_, _-_, _≤_, _<_}
 use native.Mathlib.Numerals.{add-one}
 use native.Mathlib.Omega.{arith}
@@ -18,10 +18,10 @@ use Rattle.paper.specs.Area.{orderOf}
 use Rattle.paper.specs.Intervals.{No}
 use Rattle.paper.specs.OrderCheck.{inRange, neighbourPlaces}
 use Rattle.toposort.specs.Laid.{firstsAt, startsAt, sortedAt}
-use Rattle.topo_theory.specs.Passed.{Passed, going, fedBack, passPlace, passedBelow, replyOf}
-use Rattle.topo_theory.proofs.Ends.{starts-at-first, fed-stays}
-use Rattle.topo_theory.proofs.Passing.{outsiders, pass-listed, pass-feeding, pass-marked, pass-other}
-use Rattle.topo_theory.proofs.Rows.{any-append}
+use Rattle.convexity_theory.specs.places.Passed.{Passed, going, fedBack, passPlace, passedBelow, replyOf}
+use Rattle.convexity_theory.proofs.places.Ends.{starts-at-first, fed-stays}
+use Rattle.convexity_theory.proofs.places.Passing.{outsiders, pass-listed, pass-feeding, pass-marked, pass-other}
+use Rattle.convexity_theory.proofs.places.Rows.{any-append}
 use Rattle.tables.specs.Within.{Within}
 use Rattle.tables.proofs.Within.{within-none, within-both, within-wider}
 use Rattle.topo_checker.specs.Layout.{marksAt, Laid}

@@ -1,5 +1,5 @@
 -- Laying out the scratch: each section finds its own, and what is laid stands while the marks behind it are written.
--- Rests on toposort.Composing, topo_theory.Places and tables.Within.
+-- Rests on toposort.Composing, convexity_theory.Places and tables.Within.
 use Prim.Native.Nat.{ℕ, _+_, _*_, _≤_, _<_}
 use native.Mathlib.Decide.{decLt}
 use native.Mathlib.Omega.{arith}
@@ -20,8 +20,8 @@ use Rattle.lines_theory.proofs.Written.{start-is}
 use Rattle.toposort.specs.Standing.{Indexed}
 use Rattle.toposort.specs.Laid.{Ready, firstsAt, keysAt, startsAt, sortedAt}
 use Rattle.toposort.proofs.Composing.{long-starts, long-sorted, ordering}
-use Rattle.topo_theory.specs.Places.{nodeAt, placeOf}
-use Rattle.topo_theory.proofs.Places.{node-known, place-of-node, place-below, node-of-place}
+use Rattle.convexity_theory.specs.places.Places.{nodeAt, placeOf}
+use Rattle.convexity_theory.proofs.places.Places.{node-known, place-of-node, place-below, node-of-place}
 use Rattle.tables.specs.Within.{Within}
 use Rattle.tables.specs.Usable.{Usable, Scratched, scratchAt, scratchSize}
 use Rattle.tables.proofs.Within.{within-none, within-both, within-sets, within-set, within-wider}

@@ -11,7 +11,7 @@ use types.Run.{OneOf, miss}
 use denote.Enum.Declared.{tagOf}
 use Rattle.lists.specs.Lists.{greatest, least}
 use Rattle.paper.specs.Intervals.{Yes, No}
-use Rattle.topo_theory.specs.Passed.{passedBelow, replyOf}
+use Rattle.convexity_theory.specs.places.Passed.{passedBelow, replyOf}
 use Rattle.tables.proofs.Within.{within-none}
 use Rattle.topo_checker.specs.Layout.{marksAt}
 use Rattle.topo_checker.specs.Listing.{Spans, Under, ExtentOf}

@@ -24,7 +24,7 @@ use Rattle.counting_sort.specs.Sorted.{below}
 use Rattle.toposort.specs.Standing.{Spanned}
 use Rattle.toposort.specs.Laid.{firstsAt, startsAt, sortedAt}
 use Rattle.toposort.proofs.Indexing.{keys, is-sound, first-is as port-is, start-is, low, high, low-high, high-fits, out-count, out-is}
-use Rattle.topo_theory.specs.Places.{nodeAt, placeOf}
+use Rattle.convexity_theory.specs.places.Places.{nodeAt, placeOf}
 use Rattle.topo_checker.specs.Layout.{marksAt, Laid}
 use Rattle.topo_checker.specs.Near.{placeReached, Reaching}
 use Rattle.topo_checker.proofs.Kept.{any-keep, any-map}

@@ -22,7 +22,7 @@ use Rattle.paper.specs.Refusals.{refuse, earliest}
 use Rattle.refusals.proofs.Rulings.{no-refusal}
 use Rattle.tables.specs.Within.{Within}
 use Rattle.tables.proofs.Within.{within-none, within-set, within-wider}
-use Rattle.topo_theory.proofs.Rows.{any-append}
+use Rattle.convexity_theory.proofs.places.Rows.{any-append}
 use Rattle.topo_checker.specs.Layout.{Placed}
 use Rattle.topo_checker.specs.Listing.{NodeTaken, Unlisted, ListTaken, markedPlaces, wider, extentBelow, Spans, Under, ExtentOf}
 use Rattle.topo_checker.specs.declared.listing.Listed.the-variants.{Marked, Unknown}

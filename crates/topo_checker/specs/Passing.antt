@@ -1,5 +1,5 @@
--- The order check place by place: the marks in the area follow topo_theory's states.
--- Rests on topo_theory's Passed and Layout.
+-- The order check place by place: the marks in the area follow convexity_theory's states.
+-- Rests on convexity_theory's Passed and Layout.
 use Prim.Native.Nat.{ℕ, suc, _+_, _≤_, _<_}
 use mathlib.Core.Path.{_≡_}
 use mathlib.Core.Bool.{Bool, true, false, cond}
@@ -8,7 +8,7 @@ use lib.ListN.{length, getD}
 use lib.Dec.{leb}
 use Rattle.lists.specs.Lists.{one, member, greatest, least}
 use Rattle.paper.specs.Intervals.{Reply, Yes, No}
-use Rattle.topo_theory.specs.Passed.{Passed, going, fedBack, passPlace, passedBelow, replyOf}
+use Rattle.convexity_theory.specs.places.Passed.{Passed, going, fedBack, passPlace, passedBelow, replyOf}
 use Rattle.tables.specs.Within.{Within}
 use Rattle.topo_checker.specs.Layout.{marksAt}
 use Rattle.topo_checker.specs.Listing.{markedPlaces}
@@ -62,7 +62,7 @@ pub record MarkedBy (a : List ℕ) (n marks : ℕ) (places : List ℕ) : Type 0 
   pub marked : (j : ℕ) → j < n → getD a (marks + j) 0 ≡ one (member j places)
   pub whole : markedPlaces a marks n ≡ places
 
--- topo_theory's `passing`, by the places of the list
+-- convexity_theory's `passing`, by the places of the list
 unfoldable pub passingOver : List ℕ → List ℕ → List ℕ → Reply
 passingOver b a places = cond (leb (length places) 1) Yes (replyOf (passedBelow b a places (suc (greatest places))))
 

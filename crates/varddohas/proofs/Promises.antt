@@ -1,6 +1,6 @@
 -- What the exported checks tell keeps demand 3's promise: heard by a host, it is the answer of the paper's call on the words of the lent bytes. So does
 -- the path, with its steps as they are read from the lent bytes.
--- Rests on paper's Heard, trust_theory, path_theory and bytes_theory.
+-- Rests on paper's Heard, convexity_theory, path_theory and words.
 use Prim.Native.Nat.{ℕ, _/_}
 use mathlib.Core.Path.{_≡_, refl, sym, ap, _∙_, subst}
 use mathlib.Core.List.{List, [], _∷_, _++_}
@@ -23,8 +23,8 @@ use Rattle.paper.specs.Promise.{
 }
 use Rattle.paper.proofs.Heard.{line-heard-told, order-heard-told, path-heard-told}
 use Rattle.words.proofs.Turns.{length-wordsFrom}
-use Rattle.bytes_theory.proofs.Buffers.{put-and-read}
-use Rattle.trust_theory.proofs.Promise.{line-promise, order-promise, line-ports-promise, order-ports-promise}
+use Rattle.words.proofs.Buffers.{put-and-read}
+use Rattle.convexity_theory.proofs.trust.Promise.{line-promise, order-promise, line-ports-promise, order-ports-promise}
 use Rattle.path_theory.proofs.Promise.{path-promise}
 
 -- ---- the line check: case, count, number and place as they are told, over count, number and place as they were (c₀, n₀, p₀)

@@ -6,31 +6,16 @@ use Rattle.acceptance.proofs.Whole.{linked, too-many, unknown, unordere
 use Rattle.acceptance.proofs.accepted.Statement.{statement}
 use Rattle.acceptance.proofs.accepted.Tie as tie
 
-shared-slice-read-wide : tie.Need-shared-slice-read-wide
-shared-slice-read-wide c = search needs
-
-wide-requires : tie.Need-wide-requires
-wide-requires c κs = search needs
-
-add-if1 : tie.Need-add-if1
-add-if1 c = search needs
-
 returns : tie.Need-returns
 returns c =
     let start = c .before .before .before .before .before in
     as-accepted (too-many (start .pre) (c .before .wide .ensures) (omega (arith, c .if1 .taken)))
-
-tables-known-requires : tie.Need-tables-known-requires
-tables-known-requires c κs = search needs
 
 returns-2 : tie.Need-returns-2
 returns-2 c =
     let at-wide = c .before .before .before in
     let start = at-wide .before .before .before .before in
     as-accepted (unknown (start .pre) (at-wide .wide .ensures) (c .before .tables-known .ensures) (c .if2 .taken))
-
-order-forward-requires : tie.Need-order-forward-requires
-order-forward-requires c κs = search needs
 
 returns-3 : tie.Need-returns-3
 returns-3 c =
@@ -103,17 +88,5 @@ pub accepted-spec : {M : Type 1} → statement M
 accepted-spec =
     tie.close
     (tie.spec
-    shared-slice-read-wide
-    wide-requires
-    add-if1
-    returns
-    tables-known-requires
-    returns-2
-    order-forward-requires
-    returns-3
-    lines-rise-requires
-    returns-4
-    lists-agree-requires
-    returns-5
-    links-agree-requires
-    returns-6)
+    (search needs) (λ c κs. search needs) (search needs) returns (λ c κs. search needs) returns-2 (λ c κs. search needs) returns-3
+    lines-rise-requires returns-4 lists-agree-requires returns-5 links-agree-requires returns-6)

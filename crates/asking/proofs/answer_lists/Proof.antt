@@ -24,37 +24,10 @@ next-list-requires c κs =
     let far = c .before .before .before .before .loop .inv .0 in
     (far .standing, (far .starts, (search needs, (search needs, (omega arith, omega arith)))))
 
-sub-write-all : tie.Need-sub-write-all Inv-loop μ-loop
-sub-write-all c = search needs
-
-part-write-all-start : tie.Need-part-write-all-start Inv-loop μ-loop
-part-write-all-start c = search needs
-
-part-write-all-end : tie.Need-part-write-all-end Inv-loop μ-loop
-part-write-all-end c = search needs
-
-write-all-requires : tie.Need-write-all-requires Inv-loop μ-loop
-write-all-requires c κs = search needs
-
-add-i : tie.Need-add-i Inv-loop μ-loop
-add-i c = search needs
-
-loop-less : tie.Need-loop-less Inv-loop μ-loop
-loop-less c = search needs
-
 loop-again : tie.Need-loop-again Inv-loop μ-loop
 loop-again c =
     let asked = c .before .before .before .before .before .before .before .before .before in
     (turn-more (asked .before .before .before .before .before .loop .inv .0) (asked .next-list .ensures), search needs, search needs, search needs)
-
-same-length : tie.Need-same-length Inv-loop μ-loop
-same-length c = search needs
-
-same-length-2 : tie.Need-same-length-2 Inv-loop μ-loop
-same-length-2 c = search needs
-
-same-length-3 : tie.Need-same-length-3 Inv-loop μ-loop
-same-length-3 c = search needs
 
 returns : tie.Need-returns Inv-loop μ-loop
 returns c = turns-done (c .before .loop .inv .0) (search needs)
@@ -63,18 +36,5 @@ pub answer-lists-spec : {M : Type 1} → statement M
 answer-lists-spec =
     tie.close
     (tie.spec
-    Inv-loop
-    μ-loop
-    loop-holds
-    next-list-requires
-    sub-write-all
-    part-write-all-start
-    part-write-all-end
-    write-all-requires
-    add-i
-    loop-less
-    loop-again
-    same-length
-    same-length-2
-    same-length-3
-    returns)
+    Inv-loop μ-loop loop-holds next-list-requires (search needs) (search needs) (search needs) (λ c κs. search needs) (search needs)
+    (search needs) loop-again (search needs) (search needs) (search needs) returns)

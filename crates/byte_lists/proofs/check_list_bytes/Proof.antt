@@ -7,32 +7,8 @@ use borrow.Author.Needs.{needs}
 use Rattle.byte_lists.proofs.check_list_bytes.Statement.{statement}
 use Rattle.byte_lists.proofs.check_list_bytes.Tie as tie
 
-mul-take-in-bytes : tie.Need-mul-take-in-bytes
-mul-take-in-bytes c = search needs
-
-add-take-in-bytes : tie.Need-add-take-in-bytes
-add-take-in-bytes c = search needs
-
-mul-take-in-bytes-2 : tie.Need-mul-take-in-bytes-2
-mul-take-in-bytes-2 c = search needs
-
-add-take-in-bytes-2 : tie.Need-add-take-in-bytes-2
-add-take-in-bytes-2 c = search needs
-
-take-in-bytes-requires : tie.Need-take-in-bytes-requires
-take-in-bytes-requires c κs = search needs
-
-enum-known-taken : tie.Need-enum-known-taken
-enum-known-taken c = search needs
-
-enum-told : tie.Need-enum-told
-enum-told c = search needs
-
 list-refusal-requires : tie.Need-list-refusal-requires
 list-refusal-requires c κs = not-taken (c .enum-told .given .1)
-
-same-length : tie.Need-same-length
-same-length c = search needs
 
 returns : tie.Need-returns
 returns c =
@@ -48,9 +24,6 @@ check-listed-requires c κs =
     let kept = taken-kept (start .args .n) (start .args .l) (start .args .p) (taking .take-in-bytes .ensures .kept) in
     (still-usable (start .pre) kept, listed (start .pre) (all-taken (taking .take-in-bytes .ensures) (told .before .taken .given .1)) kept)
 
-same-length-2 : tie.Need-same-length-2
-same-length-2 c = search needs
-
 returns-2 : tie.Need-returns-2
 returns-2 c =
     let checked = c .before .before in
@@ -64,16 +37,5 @@ pub check-list-bytes-spec : {M : Type 1} → statement M
 check-list-bytes-spec =
     tie.close
     (tie.spec
-    mul-take-in-bytes
-    add-take-in-bytes
-    mul-take-in-bytes-2
-    add-take-in-bytes-2
-    take-in-bytes-requires
-    enum-known-taken
-    enum-told
-    list-refusal-requires
-    same-length
-    returns
-    check-listed-requires
-    same-length-2
-    returns-2)
+    (search needs) (search needs) (search needs) (search needs) (λ c κs. search needs) (search needs) (search needs) list-refusal-requires
+    (search needs) returns check-listed-requires (search needs) returns-2)

@@ -50,33 +50,6 @@ asked w =
     (w .before .before .before .before .few-records .ensures) (w .before .before .before .record-room .result) (w .before .before .before .record-room .ensures)
     (w .write-intervals .result) (w .write-intervals .ensures)
 
-few-records-requires : tie.Need-few-records-requires
-few-records-requires c κs = search needs
-
-record-room-requires : tie.Need-record-room-requires
-record-room-requires c κs = search needs
-
-mul-write-intervals : tie.Need-mul-write-intervals
-mul-write-intervals c = search needs
-
-sub-write-intervals : tie.Need-sub-write-intervals
-sub-write-intervals c = search needs
-
-part-room-start : tie.Need-part-room-start
-part-room-start c = search needs
-
-part-room-end : tie.Need-part-room-end
-part-room-end c = search needs
-
-write-intervals-requires : tie.Need-write-intervals-requires
-write-intervals-requires c κs = search needs
-
-enum-known-written : tie.Need-enum-known-written
-enum-known-written c = search needs
-
-same-length : tie.Need-same-length
-same-length c = search needs
-
 returns : tie.Need-returns
 returns c =
     let written = c .before .before .before .before in
@@ -86,12 +59,6 @@ mul-put-words : tie.Need-mul-put-words
 mul-put-words c =
     let written = c .before .before .before .before .before .before in
     omega (arith, words-few (asked written .inside) (made-so (asked written) (c .before .written .given .1)))
-
-sub-put-words : tie.Need-sub-put-words
-sub-put-words c = search needs
-
-part-put-words-start : tie.Need-part-put-words-start
-part-put-words-start c = search needs
 
 part-put-words-end : tie.Need-part-put-words-end
 part-put-words-end c =
@@ -105,12 +72,6 @@ put-words-requires c κs =
     let written = made .before .before .before .before .before .before in
     words-fit (asked written .inside) (made-so (asked written) (made .before .written .given .1)) (rest written)
 
-same-length-2 : tie.Need-same-length-2
-same-length-2 c = search needs
-
-same-length-3 : tie.Need-same-length-3
-same-length-3 c = search needs
-
 returns-2 : tie.Need-returns-2
 returns-2 c =
     let put = c .before .before in
@@ -122,21 +83,6 @@ pub write-intervals-bytes-spec : {M : Type 1} → statement M
 write-intervals-bytes-spec =
     tie.close
     (tie.spec
-    few-records-requires
-    record-room-requires
-    mul-write-intervals
-    sub-write-intervals
-    part-room-start
-    part-room-end
-    write-intervals-requires
-    enum-known-written
-    same-length
-    returns
-    mul-put-words
-    sub-put-words
-    part-put-words-start
-    part-put-words-end
-    put-words-requires
-    same-length-2
-    same-length-3
-    returns-2)
+    (λ c κs. search needs) (λ c κs. search needs) (search needs) (search needs) (search needs) (search needs) (λ c κs. search needs)
+    (search needs) (search needs) returns mul-put-words (search needs) (search needs) part-put-words-end put-words-requires (search needs)
+    (search needs) returns-2)

@@ -22,24 +22,6 @@ returns-2 c =
     (beyond-bytes (start .args .b .now) (start .args .area .now) (start .args .n) (start .args .l) (start .args .p) (start .args .records .now) (c .if2 .taken))
     (c .before .if1 .left) (BadRecord _) refl (λ e. no-refusal (sym e))
 
-wide-room-requires : tie.Need-wide-room-requires
-wide-room-requires c κs = search needs
-
-slice-aggregate-read-records : tie.Need-slice-aggregate-read-records
-slice-aggregate-read-records c = search needs
-
-read-records-requires : tie.Need-read-records-requires
-read-records-requires c κs = search needs
-
-slice-aggregate-check-by-records : tie.Need-slice-aggregate-check-by-records
-slice-aggregate-check-by-records c = search needs
-
-check-by-records-requires : tie.Need-check-by-records-requires
-check-by-records-requires c κs = search needs
-
-same-length : tie.Need-same-length
-same-length c = search needs
-
 returns-3 : tie.Need-returns-3
 returns-3 c =
     let read = c .before .before .before .before .before .before in
@@ -52,12 +34,5 @@ pub check-by-records-bytes-spec : {M : Type 1} → statement M
 check-by-records-bytes-spec =
     tie.close
     (tie.spec
-    returns
-    returns-2
-    wide-room-requires
-    slice-aggregate-read-records
-    read-records-requires
-    slice-aggregate-check-by-records
-    check-by-records-requires
-    same-length
+    returns returns-2 (λ c κs. search needs) (search needs) (λ c κs. search needs) (search needs) (λ c κs. search needs) (search needs)
     returns-3)

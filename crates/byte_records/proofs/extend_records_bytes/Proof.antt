@@ -27,42 +27,6 @@ returns-2 c =
     (beyond-bytes (start .args .b .now) (start .args .area .now) (start .args .n) (start .args .l) (start .args .p) (start .args .records .now) (c .if2 .taken))
     (c .before .if1 .left) (BadRecord _) refl (λ e. no-refusal (sym e)))
 
-wide-room-requires : tie.Need-wide-room-requires
-wide-room-requires c κs = search needs
-
-slice-aggregate-read-records : tie.Need-slice-aggregate-read-records
-slice-aggregate-read-records c = search needs
-
-read-records-requires : tie.Need-read-records-requires
-read-records-requires c κs = search needs
-
-at-most-requires : tie.Need-at-most-requires
-at-most-requires c κs = search needs
-
-mul-extend-records : tie.Need-mul-extend-records
-mul-extend-records c = search needs
-
-sub-extend-records : tie.Need-sub-extend-records
-sub-extend-records c = search needs
-
-part-room-start : tie.Need-part-room-start
-part-room-start c = search needs
-
-part-room-end : tie.Need-part-room-end
-part-room-end c = search needs
-
-extend-records-requires : tie.Need-extend-records-requires
-extend-records-requires c κs = search needs
-
-enum-known-extended : tie.Need-enum-known-extended
-enum-known-extended c = search needs
-
-same-length : tie.Need-same-length
-same-length c = search needs
-
-same-length-2 : tie.Need-same-length-2
-same-length-2 c = search needs
-
 returns-3 : tie.Need-returns-3
 returns-3 c =
     let extended = c .before .before .before .before in
@@ -88,12 +52,6 @@ mul-put-words c =
           (c .before .extended .given .1),
     )
 
-sub-put-words : tie.Need-sub-put-words
-sub-put-words c = search needs
-
-part-put-words-start : tie.Need-part-put-words-start
-part-put-words-start c = search needs
-
 part-put-words-end : tie.Need-part-put-words-end
 part-put-words-end c =
     let extended = c .before .before .before .before .before .before .before in
@@ -116,12 +74,6 @@ put-words-requires c κs =
     (made .before .before .if1 .left) (extended .extend-records .result) (extended .extend-records .ensures)
     (c .before .before .before .before .extended .given .1) _
 
-same-length-3 : tie.Need-same-length-3
-same-length-3 c = search needs
-
-same-length-4 : tie.Need-same-length-4
-same-length-4 c = search needs
-
 returns-4 : tie.Need-returns-4
 returns-4 c =
     let extended = c .before .before .before .before .before .before .before .before .before .before .before .before in
@@ -137,26 +89,6 @@ pub extend-records-bytes-spec : {M : Type 1} → statement M
 extend-records-bytes-spec =
     tie.close
     (tie.spec
-    returns
-    returns-2
-    wide-room-requires
-    slice-aggregate-read-records
-    read-records-requires
-    at-most-requires
-    mul-extend-records
-    sub-extend-records
-    part-room-start
-    part-room-end
-    extend-records-requires
-    enum-known-extended
-    same-length
-    same-length-2
-    returns-3
-    mul-put-words
-    sub-put-words
-    part-put-words-start
-    part-put-words-end
-    put-words-requires
-    same-length-3
-    same-length-4
-    returns-4)
+    returns returns-2 (λ c κs. search needs) (search needs) (λ c κs. search needs) (λ c κs. search needs) (search needs) (search needs)
+    (search needs) (search needs) (λ c κs. search needs) (search needs) (search needs) (search needs) returns-3 mul-put-words (search needs)
+    (search needs) part-put-words-end put-words-requires (search needs) (search needs) returns-4)

@@ -33,45 +33,6 @@ returns c =
     refl (λ e. no-refusal (sym e)) rest)
     ))
 
-wide-room-requires : tie.Need-wide-room-requires
-wide-room-requires c κs = search needs
-
-slice-aggregate-read-records : tie.Need-slice-aggregate-read-records
-slice-aggregate-read-records c = search needs
-
-read-records-requires : tie.Need-read-records-requires
-read-records-requires c κs = search needs
-
-node-words-requires : tie.Need-node-words-requires
-node-words-requires c κs = search needs
-
-at-most-requires : tie.Need-at-most-requires
-at-most-requires c κs = search needs
-
-slice-aggregate-nodes-of-records : tie.Need-slice-aggregate-nodes-of-records
-slice-aggregate-nodes-of-records c = search needs
-
-sub-nodes-of-records : tie.Need-sub-nodes-of-records
-sub-nodes-of-records c = search needs
-
-part-nodes-start : tie.Need-part-nodes-start
-part-nodes-start c = search needs
-
-part-nodes-end : tie.Need-part-nodes-end
-part-nodes-end c = search needs
-
-nodes-of-records-requires : tie.Need-nodes-of-records-requires
-nodes-of-records-requires c κs = search needs
-
-enum-known-found : tie.Need-enum-known-found
-enum-known-found c = search needs
-
-enum-told : tie.Need-enum-told
-enum-told c = search needs
-
-same-length : tie.Need-same-length
-same-length c = search needs
-
 returns-2 : tie.Need-returns-2
 returns-2 c =
     let found = c .before .before .before .before .before in
@@ -85,12 +46,6 @@ returns-2 c =
     (node-room (fit .before .node-words .result) (start .args .buffer .now) (fit .before .node-words .ensures) (fit .at-most .ensures))
     (found .nodes-of-records .result) (found .nodes-of-records .ensures)
     (c .enum-told .given .1)
-
-sub-put-words : tie.Need-sub-put-words
-sub-put-words c = search needs
-
-part-put-words-start : tie.Need-part-put-words-start
-part-put-words-start c = search needs
 
 part-put-words-end : tie.Need-part-put-words-end
 part-put-words-end c =
@@ -120,12 +75,6 @@ put-words-requires c κs =
     (found .nodes-of-records .result) (found .nodes-of-records .ensures)
     (c .before .before .before .before .found .given .1) _
 
-same-length-2 : tie.Need-same-length-2
-same-length-2 c = search needs
-
-same-length-3 : tie.Need-same-length-3
-same-length-3 c = search needs
-
 returns-3 : tie.Need-returns-3
 returns-3 c =
     let found = c .before .before .before .before .before .before .before .before .before .before .before .before in
@@ -144,25 +93,6 @@ pub nodes-of-records-bytes-spec : {M : Type 1} → statement M
 nodes-of-records-bytes-spec =
     tie.close
     (tie.spec
-    returns
-    wide-room-requires
-    slice-aggregate-read-records
-    read-records-requires
-    node-words-requires
-    at-most-requires
-    slice-aggregate-nodes-of-records
-    sub-nodes-of-records
-    part-nodes-start
-    part-nodes-end
-    nodes-of-records-requires
-    enum-known-found
-    enum-told
-    same-length
-    returns-2
-    sub-put-words
-    part-put-words-start
-    part-put-words-end
-    put-words-requires
-    same-length-2
-    same-length-3
-    returns-3)
+    returns (λ c κs. search needs) (search needs) (λ c κs. search needs) (λ c κs. search needs) (λ c κs. search needs) (search needs)
+    (search needs) (search needs) (search needs) (λ c κs. search needs) (search needs) (search needs) (search needs) returns-2
+    (search needs) (search needs) part-put-words-end put-words-requires (search needs) (search needs) returns-3)

@@ -5,27 +5,6 @@ use borrow.Author.Needs.{needs}
 use Rattle.byte_records.proofs.read_records.Statement.{statement}
 use Rattle.byte_records.proofs.read_records.Tie as tie
 
-at-most-requires : tie.Need-at-most-requires
-at-most-requires c κs = search needs
-
-mul-words-from : tie.Need-mul-words-from
-mul-words-from c = search needs
-
-sub-words-from : tie.Need-sub-words-from
-sub-words-from c = search needs
-
-part-words-from-start : tie.Need-part-words-from-start
-part-words-from-start c = search needs
-
-part-words-from-end : tie.Need-part-words-from-end
-part-words-from-end c = search needs
-
-words-from-requires : tie.Need-words-from-requires
-words-from-requires c κs = search needs
-
-same-length : tie.Need-same-length
-same-length c = search needs
-
 returns : tie.Need-returns
 returns c =
     let start = c .before .before .before .before .before .before .before .before in
@@ -36,11 +15,4 @@ pub read-records-spec : {M : Type 1} → statement M
 read-records-spec =
     tie.close
     (tie.spec
-    at-most-requires
-    mul-words-from
-    sub-words-from
-    part-words-from-start
-    part-words-from-end
-    words-from-requires
-    same-length
-    returns)
+    (λ c κs. search needs) (search needs) (search needs) (search needs) (search needs) (λ c κs. search needs) (search needs) returns)

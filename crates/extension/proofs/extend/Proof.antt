@@ -9,36 +9,15 @@ use Rattle.extension.proofs.Ending.{few-given, lines-ready, extended}
 use Rattle.extension.proofs.extend.Statement.{statement}
 use Rattle.extension.proofs.extend.Tie as tie
 
-mul-copy-words : tie.Need-mul-copy-words
-mul-copy-words c = search needs
-
 copy-words-requires : tie.Need-copy-words-requires
 copy-words-requires c κs =
     let start = c .before .before .before .before .before in
     (omega (arith, start .pre .1 .0 .fits), omega (arith, few-given (start .pre .0) (start .pre .1 .0), start .pre .1 .1 .1 .1))
 
-mul-entries : tie.Need-mul-entries
-mul-entries c = search needs
-
-add-entries : tie.Need-add-entries
-add-entries c = search needs
-
-mul-entries-2 : tie.Need-mul-entries-2
-mul-entries-2 c = search needs
-
-add-entries-2 : tie.Need-add-entries-2
-add-entries-2 c = search needs
-
 entries-requires : tie.Need-entries-requires
 entries-requires c κs =
     let start = c .before .before .before .before .before .before .before .before in
     lines-span (start .pre .0) (start .args .v) (start .pre .1 .1 .1 .0)
-
-add-word-at : tie.Need-add-word-at
-add-word-at c = search needs
-
-word-at-requires : tie.Need-word-at-requires
-word-at-requires c κs = search needs
 
 extend-lines-requires : tie.Need-extend-lines-requires
 extend-lines-requires c κs =
@@ -50,9 +29,6 @@ extend-lines-requires c κs =
           (start .pre .1 .1 .1 .1),
     )
 
-same-length : tie.Need-same-length
-same-length c = search needs
-
 returns : tie.Need-returns
 returns c =
     let read = c .before .before .before .before in
@@ -63,15 +39,5 @@ pub extend-spec : {M : Type 1} → statement M
 extend-spec =
     tie.close
     (tie.spec
-    mul-copy-words
-    copy-words-requires
-    mul-entries
-    add-entries
-    mul-entries-2
-    add-entries-2
-    entries-requires
-    add-word-at
-    word-at-requires
-    extend-lines-requires
-    same-length
-    returns)
+    (search needs) copy-words-requires (search needs) (search needs) (search needs) (search needs) entries-requires (search needs)
+    (λ c κs. search needs) extend-lines-requires (search needs) returns)

@@ -16,29 +16,11 @@ abbrev μ-loop : tie.MeasureT-loop
 loop-holds : tie.Need-loop-holds Inv-loop μ-loop
 loop-holds c = at-first (c .before .before .before .before .pre .1)
 
-mul-wide : tie.Need-mul-wide Inv-loop μ-loop
-mul-wide c = search needs
-
-shared-slice-read-wide : tie.Need-shared-slice-read-wide Inv-loop μ-loop
-shared-slice-read-wide c = search needs
-
-wide-requires : tie.Need-wide-requires Inv-loop μ-loop
-wide-requires c κs = search needs
-
 extend-line-requires : tie.Need-extend-line-requires Inv-loop μ-loop
 extend-line-requires c κs =
     let head = c .before .before .before .before in
     let start = head .before .before .before .before .before in
     (start .pre .0, line-ready (start .pre .1) (head .loop .inv) (c .before .before .before .loop-test .taken) (c .wide .ensures))
-
-enum-known-next : tie.Need-enum-known-next Inv-loop μ-loop
-enum-known-next c = search needs
-
-enum-told : tie.Need-enum-told Inv-loop μ-loop
-enum-told c = search needs
-
-same-length : tie.Need-same-length Inv-loop μ-loop
-same-length c = search needs
 
 returns : tie.Need-returns Inv-loop μ-loop
 returns c =
@@ -46,20 +28,11 @@ returns c =
     let head = one .before .before .before .before .before in
     stops (head .before .before .before .before .before .pre .1) (head .loop .inv) (one .before .before .before .before .loop-test .taken) (one .before .wide .ensures) (one .extend-line .ensures) (c .enum-told .given .1)
 
-add-i : tie.Need-add-i Inv-loop μ-loop
-add-i c = search needs
-
-loop-less : tie.Need-loop-less Inv-loop μ-loop
-loop-less c = search needs
-
 loop-again : tie.Need-loop-again Inv-loop μ-loop
 loop-again c =
     let one = c .before .before .before .before .before in
     let head = one .before .before .before .before .before in
     goes (head .before .before .before .before .before .pre .1) (head .loop .inv) (one .before .before .before .before .loop-test .taken) (one .before .wide .ensures) (one .extend-line .ensures) (c .before .next .given .1)
-
-same-length-2 : tie.Need-same-length-2 Inv-loop μ-loop
-same-length-2 c = search needs
 
 returns-2 : tie.Need-returns-2 Inv-loop μ-loop
 returns-2 c =
@@ -70,19 +43,5 @@ pub extend-lines-spec : {M : Type 1} → statement M
 extend-lines-spec =
     tie.close
     (tie.spec
-    Inv-loop
-    μ-loop
-    loop-holds
-    mul-wide
-    shared-slice-read-wide
-    wide-requires
-    extend-line-requires
-    enum-known-next
-    enum-told
-    same-length
-    returns
-    add-i
-    loop-less
-    loop-again
-    same-length-2
-    returns-2)
+    Inv-loop μ-loop loop-holds (search needs) (search needs) (λ c κs. search needs) extend-line-requires (search needs) (search needs)
+    (search needs) returns (search needs) (search needs) loop-again (search needs) returns-2)

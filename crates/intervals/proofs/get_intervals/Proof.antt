@@ -7,30 +7,6 @@ use Rattle.intervals.proofs.Whole.{can-test, not-contiguous, contiguous
 use Rattle.intervals.proofs.get_intervals.Statement.{statement}
 use Rattle.intervals.proofs.get_intervals.Tie as tie
 
-mul-fill : tie.Need-mul-fill
-mul-fill c = search needs
-
-add-fill : tie.Need-add-fill
-add-fill c = search needs
-
-mul-fill-2 : tie.Need-mul-fill-2
-mul-fill-2 c = search needs
-
-add-fill-2 : tie.Need-add-fill-2
-add-fill-2 c = search needs
-
-add-fill-3 : tie.Need-add-fill-3
-add-fill-3 c = search needs
-
-add-fill-4 : tie.Need-add-fill-4
-add-fill-4 c = search needs
-
-add-fill-5 : tie.Need-add-fill-5
-add-fill-5 c = search needs
-
-fill-requires : tie.Need-fill-requires
-fill-requires c κs = search needs
-
 add-nodes-requires : tie.Need-add-nodes-requires
 add-nodes-requires c κs =
     let emptied = c .before .before .before .before in
@@ -44,12 +20,6 @@ all-filled-requires c κs =
     let start = emptied .before .before .before .before .before in
     can-test (start .pre .0) (start .pre .1 .0) (emptied .fill .ensures) (added .add-nodes .ensures) (start .pre .1 .1)
 
-same-length : tie.Need-same-length
-same-length c = search needs
-
-same-length-2 : tie.Need-same-length-2
-same-length-2 c = search needs
-
 returns : tie.Need-returns
 returns c =
     let added = c .before .before .before .before .before .before .before .before in
@@ -57,12 +27,6 @@ returns c =
     let start = emptied .before .before .before .before .before in
     not-contiguous (start .pre .0) (start .pre .1 .0) (emptied .fill .ensures) (added .add-nodes .ensures) (start .pre .1 .1) (c .before .all-filled .ensures)
     (not-true _ (c .if1 .taken))
-
-same-length-3 : tie.Need-same-length-3
-same-length-3 c = search needs
-
-same-length-4 : tie.Need-same-length-4
-same-length-4 c = search needs
 
 returns-2 : tie.Need-returns-2
 returns-2 c =
@@ -76,19 +40,5 @@ pub get-intervals-spec : {M : Type 1} → statement M
 get-intervals-spec =
     tie.close
     (tie.spec
-    mul-fill
-    add-fill
-    mul-fill-2
-    add-fill-2
-    add-fill-3
-    add-fill-4
-    add-fill-5
-    fill-requires
-    add-nodes-requires
-    all-filled-requires
-    same-length
-    same-length-2
-    returns
-    same-length-3
-    same-length-4
-    returns-2)
+    (search needs) (search needs) (search needs) (search needs) (search needs) (search needs) (search needs) (λ c κs. search needs)
+    add-nodes-requires all-filled-requires (search needs) (search needs) returns (search needs) (search needs) returns-2)

@@ -8,32 +8,17 @@ use Rattle.line_lists.proofs.Whole.{can-push, transposed}
 use Rattle.line_lists.proofs.nodes_of_lines.Statement.{statement}
 use Rattle.line_lists.proofs.nodes_of_lines.Tie as tie
 
-add-fill : tie.Need-add-fill
-add-fill c = search needs
-
-fill-requires : tie.Need-fill-requires
-fill-requires c κs = search needs
-
-add-tally : tie.Need-add-tally
-add-tally c = search needs
-
 tally-requires : tie.Need-tally-requires
 tally-requires c κs =
     let filled = c .before .before .before in
     let ready = sorting (filled .before .before .before .pre) in
     (ready₁ ready (filled .fill .ensures), zeros₁ ready (filled .fill .ensures))
 
-add-accumulate : tie.Need-add-accumulate
-add-accumulate c = search needs
-
 accumulate-requires : tie.Need-accumulate-requires
 accumulate-requires c κs =
     let tallied = c .before .before .before in
     let filled = tallied .before .before .before .before in
     ready₂ (sorting (filled .before .before .before .pre)) (filled .fill .ensures) (tallied .tally .ensures)
-
-add-push-nodes : tie.Need-add-push-nodes
-add-push-nodes c = search needs
 
 push-nodes-requires : tie.Need-push-nodes-requires
 push-nodes-requires c κs =
@@ -42,9 +27,6 @@ push-nodes-requires c κs =
     let filled = tallied .before .before .before .before in
     let pre = filled .before .before .before .pre in
     can-push pre (counted (sorting pre) (filled .fill .ensures) (tallied .tally .ensures) (summed .accumulate .ensures))
-
-same-length : tie.Need-same-length
-same-length c = search needs
 
 returns : tie.Need-returns
 returns c =
@@ -59,13 +41,5 @@ pub nodes-of-lines-spec : {M : Type 1} → statement M
 nodes-of-lines-spec =
     tie.close
     (tie.spec
-    add-fill
-    fill-requires
-    add-tally
-    tally-requires
-    add-accumulate
-    accumulate-requires
-    add-push-nodes
-    push-nodes-requires
-    same-length
-    returns)
+    (search needs) (λ c κs. search needs) (search needs) tally-requires (search needs) accumulate-requires (search needs)
+    push-nodes-requires (search needs) returns)

@@ -8,16 +8,10 @@ use Rattle.links_by_port.proofs.Sorted.{ready-to-sort, by-port}
 use Rattle.links_by_port.proofs.links_by_input.Statement.{statement}
 use Rattle.links_by_port.proofs.links_by_input.Tie as tie
 
-target-keys-requires : tie.Need-target-keys-requires
-target-keys-requires c κs = search needs
-
 count-sort-requires : tie.Need-count-sort-requires
 count-sort-requires c κs =
     ready-to-sort (c .before .before .before .before .before .before .before .pre) (targetPort (c .before .before .before .before .before .before .before .args .b .now))
     (λ k h. target-below (c .before .before .before .before .before .before .before .pre .tabled .read) (sound _ (c .before .before .before .before .before .before .before .pre .tabled .links)) h) (c .before .before .before .target-keys .ensures)
-
-same-length : tie.Need-same-length
-same-length c = search needs
 
 returns : tie.Need-returns
 returns c =
@@ -27,4 +21,5 @@ returns c =
 
 pub links-by-input-spec : {M : Type 1} → statement M
 links-by-input-spec =
-    tie.close (tie.spec target-keys-requires count-sort-requires same-length returns)
+    tie.close (tie.spec
+    (λ c κs. search needs) count-sort-requires (search needs) returns)

@@ -8,16 +8,10 @@ use Rattle.links_by_port.proofs.Sorted.{ready-to-sort, by-port}
 use Rattle.links_by_port.proofs.links_by_output.Statement.{statement}
 use Rattle.links_by_port.proofs.links_by_output.Tie as tie
 
-source-keys-requires : tie.Need-source-keys-requires
-source-keys-requires c κs = search needs
-
 count-sort-requires : tie.Need-count-sort-requires
 count-sort-requires c κs =
     ready-to-sort (c .before .before .before .before .before .before .before .pre) (sourcePort (c .before .before .before .before .before .before .before .args .b .now))
     (λ k h. source-below (c .before .before .before .before .before .before .before .pre .tabled .read) (sound _ (c .before .before .before .before .before .before .before .pre .tabled .links)) h) (c .before .before .before .source-keys .ensures)
-
-same-length : tie.Need-same-length
-same-length c = search needs
 
 returns : tie.Need-returns
 returns c =
@@ -27,4 +21,5 @@ returns c =
 
 pub links-by-output-spec : {M : Type 1} → statement M
 links-by-output-spec =
-    tie.close (tie.spec source-keys-requires count-sort-requires same-length returns)
+    tie.close (tie.spec
+    (λ c κs. search needs) count-sort-requires (search needs) returns)

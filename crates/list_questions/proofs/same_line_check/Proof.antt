@@ -14,15 +14,6 @@ use borrow.Author.Needs.{needs}
 use Rattle.list_questions.proofs.same_line_check.Statement.{statement}
 use Rattle.list_questions.proofs.same_line_check.Tie as tie
 
-list-at-requires : tie.Need-list-at-requires
-list-at-requires c κs = search needs
-
-enum-known-list : tie.Need-enum-known-list
-enum-known-list c = search needs
-
-enum-told : tie.Need-enum-told
-enum-told c = search needs
-
 returns : tie.Need-returns
 unfolding sameLineCheck
 returns c =
@@ -42,14 +33,8 @@ part-is-node-convex-start c = let part = within _ _ (c .before .before .before .
 part-is-node-convex-end : tie.Need-part-is-node-convex-end
 part-is-node-convex-end c = let part = within _ _ (c .before .before .before .before .list-at .ensures) (c .before .before .list .given .1) in search needs
 
-is-node-convex-requires : tie.Need-is-node-convex-requires
-is-node-convex-requires c κs = search needs
-
 is-line-answer-requires : tie.Need-is-line-answer-requires
 is-line-answer-requires c κs = let part = within _ _ (c .before .before .before .before .before .before .before .before .list-at .ensures) (c .before .before .before .before .before .before .list .given .1) in search needs
-
-same-length : tie.Need-same-length
-same-length c = search needs
 
 returns-2 : tie.Need-returns-2
 unfolding sameLineCheck isNodeConvex call
@@ -64,15 +49,5 @@ pub same-line-check-spec : {M : Type 1} → statement M
 same-line-check-spec =
     tie.close
     (tie.spec
-    list-at-requires
-    enum-known-list
-    enum-told
-    returns
-    mul-is-node-convex
-    sub-is-node-convex
-    part-is-node-convex-start
-    part-is-node-convex-end
-    is-node-convex-requires
-    is-line-answer-requires
-    same-length
-    returns-2)
+    (λ c κs. search needs) (search needs) (search needs) returns mul-is-node-convex sub-is-node-convex part-is-node-convex-start
+    part-is-node-convex-end (λ c κs. search needs) is-line-answer-requires (search needs) returns-2)

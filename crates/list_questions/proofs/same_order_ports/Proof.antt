@@ -14,15 +14,6 @@ use borrow.Author.Needs.{needs}
 use Rattle.list_questions.proofs.same_order_ports.Statement.{statement}
 use Rattle.list_questions.proofs.same_order_ports.Tie as tie
 
-list-at-requires : tie.Need-list-at-requires
-list-at-requires c κs = search needs
-
-enum-known-list : tie.Need-enum-known-list
-enum-known-list c = search needs
-
-enum-told : tie.Need-enum-told
-enum-told c = search needs
-
 returns : tie.Need-returns
 unfolding sameOrderPorts
 returns c =
@@ -30,30 +21,12 @@ returns c =
     let line = start .words .now in
     (no-order line (behind line (behind line (behind line 1))) _ (omega (arith, lacks line 1 (c .before .before .list-at .ensures) (c .enum-told .given .1))), not-true)
 
-list-at-requires-2 : tie.Need-list-at-requires-2
-list-at-requires-2 c κs = search needs
-
-enum-known-inputs : tie.Need-enum-known-inputs
-enum-known-inputs c = search needs
-
-enum-told-2 : tie.Need-enum-told-2
-enum-told-2 c = search needs
-
 returns-2 : tie.Need-returns-2
 unfolding sameOrderPorts
 returns-2 c =
     let start = c .before .before .before .before .before .before .before .before .before .before .args in
     let line = start .words .now in
     (no-order line (behind line (behind line (behind line 1))) _ (omega (arith, lacks-second line 1 (c .before .before .before .before .before .before .list-at .ensures) (c .before .before .before .before .list .given .1) (c .before .before .list-at2 .ensures) (c .enum-told2 .given .1))), not-true)
-
-list-at-requires-3 : tie.Need-list-at-requires-3
-list-at-requires-3 c κs = search needs
-
-enum-known-outputs : tie.Need-enum-known-outputs
-enum-known-outputs c = search needs
-
-enum-told-3 : tie.Need-enum-told-3
-enum-told-3 c = search needs
 
 returns-3 : tie.Need-returns-3
 unfolding sameOrderPorts
@@ -98,14 +71,8 @@ part-is-convex-start-3 c = let part = within _ _ (c .before .before .before .bef
 part-is-convex-end-3 : tie.Need-part-is-convex-end-3
 part-is-convex-end-3 c = let part = within _ _ (c .before .before .before .before .before .before .list-at3 .ensures) (c .before .before .before .before .outputs .given .1) in search needs
 
-is-convex-requires : tie.Need-is-convex-requires
-is-convex-requires c κs = search needs
-
 is-order-answer-requires : tie.Need-is-order-answer-requires
 is-order-answer-requires c κs = let part = within _ _ (c .before .before .before .before .before .before .before .before .before .before .list-at3 .ensures) (c .before .before .before .before .before .before .before .before .outputs .given .1) in search needs
-
-same-length : tie.Need-same-length
-same-length c = search needs
 
 returns-4 : tie.Need-returns-4
 unfolding sameOrderPorts topoIsConvex call
@@ -122,31 +89,7 @@ pub same-order-ports-spec : {M : Type 1} → statement M
 same-order-ports-spec =
     tie.close
     (tie.spec
-    list-at-requires
-    enum-known-list
-    enum-told
-    returns
-    list-at-requires-2
-    enum-known-inputs
-    enum-told-2
-    returns-2
-    list-at-requires-3
-    enum-known-outputs
-    enum-told-3
-    returns-3
-    mul-is-convex
-    sub-is-convex
-    part-is-convex-start
-    part-is-convex-end
-    mul-is-convex-2
-    sub-is-convex-2
-    part-is-convex-start-2
-    part-is-convex-end-2
-    mul-is-convex-3
-    sub-is-convex-3
-    part-is-convex-start-3
-    part-is-convex-end-3
-    is-convex-requires
-    is-order-answer-requires
-    same-length
-    returns-4)
+    (λ c κs. search needs) (search needs) (search needs) returns (λ c κs. search needs) (search needs) (search needs) returns-2
+    (λ c κs. search needs) (search needs) (search needs) returns-3 mul-is-convex sub-is-convex part-is-convex-start part-is-convex-end
+    mul-is-convex-2 sub-is-convex-2 part-is-convex-start-2 part-is-convex-end-2 mul-is-convex-3 sub-is-convex-3 part-is-convex-start-3
+    part-is-convex-end-3 (λ c κs. search needs) is-order-answer-requires (search needs) returns-4)

@@ -36,9 +36,6 @@ sub-high c = omega (arith, c .before .before .pre .1 .inside)
 loop-holds : tie.Need-loop-holds Inv-loop μ-loop
 loop-holds c = c .before .before .pre .1
 
-add-loop : tie.Need-add-loop Inv-loop μ-loop
-add-loop c = search needs
-
 position-at-requires : tie.Need-position-at-requires Inv-loop μ-loop
 position-at-requires c κs = (c .before .before .before .before .pre .0, omega (arith, c .before .loop .inv .apart, c .before .loop .inv .inside))
 
@@ -91,18 +88,5 @@ pub find-between-spec : {M : Type 1} → statement M
 find-between-spec =
     tie.close
     (tie.spec
-    Inv-loop
-    μ-loop
-    sub-high
-    loop-holds
-    add-loop
-    position-at-requires
-    position-at-requires-2
-    guess-requires
-    position-at-requires-3
-    returns
-    loop-less
-    loop-again
-    loop-less-2
-    loop-again-2
-    returns-2)
+    Inv-loop μ-loop sub-high loop-holds (search needs) position-at-requires position-at-requires-2 guess-requires position-at-requires-3
+    returns loop-less loop-again loop-less-2 loop-again-2 returns-2)

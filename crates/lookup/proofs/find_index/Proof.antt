@@ -13,15 +13,6 @@ returns c =
     let start = c .before .before .before in
     none-of-none (start .pre) (start .args .pos) (c .if1 .taken)
 
-sub-last : tie.Need-sub-last
-sub-last c = search needs
-
-position-at-requires : tie.Need-position-at-requires
-position-at-requires c κs = search needs
-
-position-at-requires-2 : tie.Need-position-at-requires-2
-position-at-requires-2 c κs = search needs
-
 returns-2 : tie.Need-returns-2
 returns-2 c =
     let ends = c .before in
@@ -52,20 +43,9 @@ find-between-requires c κs =
     let start = ends .before .before .before .before .before in
     (start .pre, bracketed (start .pre) (start .args .pos) (omega (arith, ends .before .before .if1 .left)) (ends .before .position-at .ensures .0) (ends .position-at2 .ensures .0) (omega (arith, c .before .before .before .if2 .left, c .before .if4 .left)) (omega (arith, c .before .before .if3 .left, c .if5 .left)))
 
-returns-6 : tie.Need-returns-6
-returns-6 c = search needs
-
 pub find-index-spec : {M : Type 1} → statement M
 find-index-spec =
     tie.close
     (tie.spec
-    returns
-    sub-last
-    position-at-requires
-    position-at-requires-2
-    returns-2
-    returns-3
-    returns-4
-    returns-5
-    find-between-requires
-    returns-6)
+    returns (search needs) (λ c κs. search needs) (λ c κs. search needs) returns-2 returns-3 returns-4 returns-5 find-between-requires
+    (search needs))

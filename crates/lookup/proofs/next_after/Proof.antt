@@ -16,15 +16,6 @@ found : (s : tie.After-i)
     → lookup (positionsOn (s .before .before .before .before .before .args .nodes .now) (s .before .before .before .before .before .args .positions .now)) (s .before .before .before .before .before .args .pos) ≡ at (s .i .given .0 .0)
 found s = sym (s .before .before .find-index .ensures) ∙ ap indexSaid (s .i .given .1)
 
-find-index-requires : tie.Need-find-index-requires
-find-index-requires c κs = search needs
-
-enum-known-i : tie.Need-enum-known-i
-enum-known-i c = search needs
-
-enum-told : tie.Need-enum-told
-enum-told c = search needs
-
 returns : tie.Need-returns
 returns c =
     let start = c .before .before .before .before .before in
@@ -34,15 +25,6 @@ add-next : tie.Need-add-next
 add-next c =
     let start = c .before .before .before .before .before .before in
     omega (arith, on-line (start .pre .0) (start .args .pos) (c .before .i .given .0 .0) (found (c .before)))
-
-mul-wide : tie.Need-mul-wide
-mul-wide c = search needs
-
-shared-slice-read-wide : tie.Need-shared-slice-read-wide
-shared-slice-read-wide c = search needs
-
-wide-requires : tie.Need-wide-requires
-wide-requires c κs = search needs
 
 returns-2 : tie.Need-returns-2
 returns-2 c =
@@ -60,13 +42,5 @@ pub next-after-spec : {M : Type 1} → statement M
 next-after-spec =
     tie.close
     (tie.spec
-    find-index-requires
-    enum-known-i
-    enum-told
-    returns
-    add-next
-    mul-wide
-    shared-slice-read-wide
-    wide-requires
-    returns-2
+    (λ c κs. search needs) (search needs) (search needs) returns add-next (search needs) (search needs) (λ c κs. search needs) returns-2
     returns-3)

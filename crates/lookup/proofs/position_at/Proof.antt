@@ -15,23 +15,11 @@ node-known s =
     let start = s .before .before .before .before in
     omega (arith, s .wide .ensures, start .pre .0 .known (start .args .i) (start .pre .1))
 
-mul-wide : tie.Need-mul-wide
-mul-wide c = search needs
-
-shared-slice-read-wide : tie.Need-shared-slice-read-wide
-shared-slice-read-wide c = search needs
-
-wide-requires : tie.Need-wide-requires
-wide-requires c κs = search needs
-
 mul-wide-2 : tie.Need-mul-wide-2
 mul-wide-2 c = omega (arith, node-known c)
 
 shared-slice-read-wide-2 : tie.Need-shared-slice-read-wide-2
 shared-slice-read-wide-2 c = node-known (c .before)
-
-wide-requires-2 : tie.Need-wide-requires-2
-wide-requires-2 c κs = search needs
 
 returns : tie.Need-returns
 returns c =
@@ -43,10 +31,4 @@ pub position-at-spec : {M : Type 1} → statement M
 position-at-spec =
     tie.close
     (tie.spec
-    mul-wide
-    shared-slice-read-wide
-    wide-requires
-    mul-wide-2
-    shared-slice-read-wide-2
-    wide-requires-2
-    returns)
+    (search needs) (search needs) (λ c κs. search needs) mul-wide-2 shared-slice-read-wide-2 (λ c κs. search needs) returns)

@@ -10,15 +10,6 @@ use Rattle.opening.proofs.Opening.{unread, sized-left}
 use Rattle.opening.proofs.open.Statement.{statement}
 use Rattle.opening.proofs.open.Tie as tie
 
-read-map-requires : tie.Need-read-map-requires
-read-map-requires c κs = search needs
-
-enum-known-read : tie.Need-enum-known-read
-enum-known-read c = search needs
-
-enum-told : tie.Need-enum-told
-enum-told c = search needs
-
 map-refusal-requires : tie.Need-map-refusal-requires
 map-refusal-requires c κs = map-refused (c .before .before .read-map .result) (c .before .match .keys2)
 
@@ -29,9 +20,6 @@ returns c =
 
 open-sized-requires : tie.Need-open-sized-requires
 open-sized-requires c κs = read-well _ _ _ _ (ap mapSaid (sym (c .before .before .read .given .1)) ∙ c .before .before .before .before .read-map .ensures)
-
-same-length : tie.Need-same-length
-same-length c = search needs
 
 returns-2 : tie.Need-returns-2
 returns-2 c =
@@ -44,11 +32,4 @@ pub open-spec : {M : Type 1} → statement M
 open-spec =
     tie.close
     (tie.spec
-    read-map-requires
-    enum-known-read
-    enum-told
-    map-refusal-requires
-    returns
-    open-sized-requires
-    same-length
-    returns-2)
+    (λ c κs. search needs) (search needs) (search needs) map-refusal-requires returns open-sized-requires (search needs) returns-2)

@@ -10,15 +10,6 @@ use Rattle.opening.proofs.Opening.{unread-said, sized-said}
 use Rattle.opening.proofs.open_shared.Statement.{statement}
 use Rattle.opening.proofs.open_shared.Tie as tie
 
-read-map-requires : tie.Need-read-map-requires
-read-map-requires c κs = search needs
-
-enum-known-read : tie.Need-enum-known-read
-enum-known-read c = search needs
-
-enum-told : tie.Need-enum-told
-enum-told c = search needs
-
 map-refusal-requires : tie.Need-map-refusal-requires
 map-refusal-requires c κs = map-refused (c .before .before .read-map .result) (c .before .match .keys2)
 
@@ -40,10 +31,4 @@ pub open-shared-spec : {M : Type 1} → statement M
 open-shared-spec =
     tie.close
     (tie.spec
-    read-map-requires
-    enum-known-read
-    enum-told
-    map-refusal-requires
-    returns
-    open-sized-shared-requires
-    returns-2)
+    (λ c κs. search needs) (search needs) (search needs) map-refusal-requires returns open-sized-shared-requires returns-2)

@@ -8,15 +8,6 @@ use Rattle.opening.proofs.Opening.{bad-link, testable, not-accepted, is
 use Rattle.opening.proofs.test_tables.Statement.{statement}
 use Rattle.opening.proofs.test_tables.Tie as tie
 
-check-links-requires : tie.Need-check-links-requires
-check-links-requires c κs = search needs
-
-enum-told : tie.Need-enum-told
-enum-told c = search needs
-
-enum-told-2 : tie.Need-enum-told-2
-enum-told-2 c = search needs
-
 link-refusal-requires : tie.Need-link-refusal-requires
 link-refusal-requires c κs = links-refused (c .before .before .check-links .result) (c .before .match .keys2)
 
@@ -42,11 +33,4 @@ pub test-tables-spec : {M : Type 1} → statement M
 test-tables-spec =
     tie.close
     (tie.spec
-    check-links-requires
-    enum-told
-    enum-told-2
-    link-refusal-requires
-    returns
-    accepted-requires
-    returns-2
-    returns-3)
+    (λ c κs. search needs) (search needs) (search needs) link-refusal-requires returns accepted-requires returns-2 returns-3)

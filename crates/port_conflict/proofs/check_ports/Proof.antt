@@ -38,42 +38,15 @@ outputs-marked s =
       listed = s .mark-ports2 .ensures;
     }
 
-add-marks : tie.Need-add-marks
-add-marks c = search needs
-
-add-marks-2 : tie.Need-add-marks-2
-add-marks-2 c = search needs
-
 first-ports-at-requires : tie.Need-first-ports-at-requires
 first-ports-at-requires c κs =
     let start = c .before .before .before .before .before in
     (numbered (start .pre .0), omega (arith, start .pre .1 .1))
 
-mark-ports-requires : tie.Need-mark-ports-requires
-mark-ports-requires c κs = search needs
-
-enum-told : tie.Need-enum-told
-enum-told c = search needs
-
-same-length : tie.Need-same-length
-same-length c = search needs
-
 returns : tie.Need-returns
 returns c =
     unknown-input (inputs-marked (c .before .before .before)) (c .before .before .before .before .before .before .before .before .before .before .before .before .before .args .outputs .now)
     (not-clear (tagOf the-type) refl (c .before .before .before .mark-ports .result) (c .match .keys2))
-
-add-mark-ports : tie.Need-add-mark-ports
-add-mark-ports c = search needs
-
-mark-ports-requires-2 : tie.Need-mark-ports-requires-2
-mark-ports-requires-2 c κs = search needs
-
-enum-told-2 : tie.Need-enum-told-2
-enum-told-2 c = search needs
-
-same-length-2 : tie.Need-same-length-2
-same-length-2 c = search needs
 
 returns-2 : tie.Need-returns-2
 returns-2 c = unknown-output (outputs-marked (c .before .before .before)) (not-clear (tagOf the-type) refl (c .before .before .before .mark-ports2 .result) (c .match2 .keys2))
@@ -81,14 +54,8 @@ returns-2 c = unknown-output (outputs-marked (c .before .before .before)) (not-c
 first-links-meet-requires : tie.Need-first-links-meet-requires
 first-links-meet-requires c κs = laid (outputs-marked (c .before .before .before .before .before))
 
-same-length-3 : tie.Need-same-length-3
-same-length-3 c = search needs
-
 returns-3 : tie.Need-returns-3
 returns-3 c = decided (outputs-marked (c .before .before .before .before .before .before .before .before .before)) (ap portsSaid (c .before .before .before .before .before .enum-told2 .given .1)) (c .before .before .before .first-links-meet .ensures) (c .if1 .taken)
-
-same-length-4 : tie.Need-same-length-4
-same-length-4 c = search needs
 
 returns-4 : tie.Need-returns-4
 returns-4 c = decided (outputs-marked (c .before .before .before .before .before .before .before .before .before)) (ap portsSaid (c .before .before .before .before .before .enum-told2 .given .1)) (c .before .before .before .first-links-meet .ensures) (c .if1 .left)
@@ -97,20 +64,6 @@ pub check-ports-spec : {M : Type 1} → statement M
 check-ports-spec =
     tie.close
     (tie.spec
-    add-marks
-    add-marks-2
-    first-ports-at-requires
-    mark-ports-requires
-    enum-told
-    same-length
-    returns
-    add-mark-ports
-    mark-ports-requires-2
-    enum-told-2
-    same-length-2
-    returns-2
-    first-links-meet-requires
-    same-length-3
-    returns-3
-    same-length-4
+    (search needs) (search needs) first-ports-at-requires (λ c κs. search needs) (search needs) (search needs) returns (search needs)
+    (λ c κs. search needs) (search needs) (search needs) returns-2 first-links-meet-requires (search needs) returns-3 (search needs)
     returns-4)

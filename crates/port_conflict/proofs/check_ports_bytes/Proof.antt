@@ -39,42 +39,15 @@ outputs-marked s =
       listed = s .mark-ports-bytes2 .ensures;
     }
 
-add-marks : tie.Need-add-marks
-add-marks c = search needs
-
-add-marks-2 : tie.Need-add-marks-2
-add-marks-2 c = search needs
-
 first-ports-at-requires : tie.Need-first-ports-at-requires
 first-ports-at-requires c κs =
     let start = c .before .before .before .before .before in
     (numbered (start .pre .0), omega (arith, start .pre .1 .1))
 
-mark-ports-bytes-requires : tie.Need-mark-ports-bytes-requires
-mark-ports-bytes-requires c κs = search needs
-
-enum-told : tie.Need-enum-told
-enum-told c = search needs
-
-same-length : tie.Need-same-length
-same-length c = search needs
-
 returns : tie.Need-returns
 returns c =
     unknown-input (inputs-marked (c .before .before .before)) _
     (not-clear (tagOf the-type) refl (c .before .before .before .mark-ports-bytes .result) (c .match .keys2))
-
-add-mark-ports-bytes : tie.Need-add-mark-ports-bytes
-add-mark-ports-bytes c = search needs
-
-mark-ports-bytes-requires-2 : tie.Need-mark-ports-bytes-requires-2
-mark-ports-bytes-requires-2 c κs = search needs
-
-enum-told-2 : tie.Need-enum-told-2
-enum-told-2 c = search needs
-
-same-length-2 : tie.Need-same-length-2
-same-length-2 c = search needs
 
 returns-2 : tie.Need-returns-2
 returns-2 c = unknown-output (outputs-marked (c .before .before .before)) (not-clear (tagOf the-type) refl (c .before .before .before .mark-ports-bytes2 .result) (c .match2 .keys2))
@@ -82,14 +55,8 @@ returns-2 c = unknown-output (outputs-marked (c .before .before .before)) (not-c
 first-links-meet-requires : tie.Need-first-links-meet-requires
 first-links-meet-requires c κs = laid (outputs-marked (c .before .before .before .before .before))
 
-same-length-3 : tie.Need-same-length-3
-same-length-3 c = search needs
-
 returns-3 : tie.Need-returns-3
 returns-3 c = decided (outputs-marked (c .before .before .before .before .before .before .before .before .before)) (ap portsSaid (c .before .before .before .before .before .enum-told2 .given .1)) (c .before .before .before .first-links-meet .ensures) (c .if1 .taken)
-
-same-length-4 : tie.Need-same-length-4
-same-length-4 c = search needs
 
 returns-4 : tie.Need-returns-4
 returns-4 c = decided (outputs-marked (c .before .before .before .before .before .before .before .before .before)) (ap portsSaid (c .before .before .before .before .before .enum-told2 .given .1)) (c .before .before .before .first-links-meet .ensures) (c .if1 .left)
@@ -98,20 +65,6 @@ pub check-ports-bytes-spec : {M : Type 1} → statement M
 check-ports-bytes-spec =
     tie.close
     (tie.spec
-    add-marks
-    add-marks-2
-    first-ports-at-requires
-    mark-ports-bytes-requires
-    enum-told
-    same-length
-    returns
-    add-mark-ports-bytes
-    mark-ports-bytes-requires-2
-    enum-told-2
-    same-length-2
-    returns-2
-    first-links-meet-requires
-    same-length-3
-    returns-3
-    same-length-4
+    (search needs) (search needs) first-ports-at-requires (λ c κs. search needs) (search needs) (search needs) returns (search needs)
+    (λ c κs. search needs) (search needs) (search needs) returns-2 first-links-meet-requires (search needs) returns-3 (search needs)
     returns-4)

@@ -5,18 +5,6 @@ use Rattle.port_lines.proofs.PortLines.{first-counted}
 use Rattle.port_lines.proofs.first_line.Statement.{statement}
 use Rattle.port_lines.proofs.first_line.Tie as tie
 
-is-output-requires : tie.Need-is-output-requires
-is-output-requires c κs = search needs
-
-port-node-requires : tie.Need-port-node-requires
-port-node-requires c κs = search needs
-
-port-offset-requires : tie.Need-port-offset-requires
-port-offset-requires c κs = search needs
-
-links-among-requires : tie.Need-links-among-requires
-links-among-requires c κs = search needs
-
 returns : tie.Need-returns
 returns c =
     let placed = c .before in
@@ -28,8 +16,4 @@ pub first-line-spec : {M : Type 1} → statement M
 first-line-spec =
     tie.close
     (tie.spec
-    is-output-requires
-    port-node-requires
-    port-offset-requires
-    links-among-requires
-    returns)
+    (λ c κs. search needs) (λ c κs. search needs) (λ c κs. search needs) (λ c κs. search needs) returns)

@@ -10,12 +10,6 @@ use Rattle.port_lines.proofs.PortLines.{view-few, view-inside}
 use Rattle.port_lines.proofs.lines_at_port.Statement.{statement}
 use Rattle.port_lines.proofs.lines_at_port.Tie as tie
 
-view-start-requires : tie.Need-view-start-requires
-view-start-requires c κs = search needs
-
-line-count-requires : tie.Need-line-count-requires
-line-count-requires c κs = search needs
-
 add-result : tie.Need-add-result
 add-result c =
     let pre = c .before .before .before .before .pre in
@@ -25,12 +19,6 @@ mul-result : tie.Need-mul-result
 mul-result c =
     let pre = c .before .before .before .before .pre in
     omega (arith, view-few (pre .0) (pre .1), c .before .view-start .ensures, c .line-count .ensures, pre .0 .read .few-nodes, pre .0 .read .few-links)
-
-sub-result : tie.Need-sub-result
-sub-result c = search needs
-
-part-result-start : tie.Need-part-result-start
-part-result-start c = search needs
 
 part-result-end : tie.Need-part-result-end
 part-result-end c =
@@ -54,11 +42,4 @@ pub lines-at-port-spec : {M : Type 1} → statement M
 lines-at-port-spec =
     tie.close
     (tie.spec
-    view-start-requires
-    line-count-requires
-    add-result
-    mul-result
-    sub-result
-    part-result-start
-    part-result-end
-    returns)
+    (λ c κs. search needs) (λ c κs. search needs) add-result mul-result (search needs) (search needs) part-result-end returns)

@@ -5,16 +5,10 @@ use Rattle.port_lines.proofs.Among.{elsewhere, too-early, too-late, amo
 use Rattle.port_lines.proofs.link_among.Statement.{statement}
 use Rattle.port_lines.proofs.link_among.Tie as tie
 
-end-node-requires : tie.Need-end-node-requires
-end-node-requires c κs = search needs
-
 returns : tie.Need-returns
 returns c =
     let args = c .before .before .before .args in
     elsewhere (args .b .now) (args .out) (args .v) (args .low) (args .high) (args .k) (c .before .end-node .ensures) (c .if1 .taken)
-
-end-offset-requires : tie.Need-end-offset-requires
-end-offset-requires c κs = search needs
 
 returns-2 : tie.Need-returns-2
 returns-2 c =
@@ -36,4 +30,5 @@ returns-4 c =
 pub link-among-spec : {M : Type 1} → statement M
 link-among-spec =
     tie.close
-    (tie.spec end-node-requires returns end-offset-requires returns-2 returns-3 returns-4)
+    (tie.spec
+    (λ c κs. search needs) returns (λ c κs. search needs) returns-2 returns-3 returns-4)

@@ -29,12 +29,6 @@ add-count c =
     let args = c .before .before .before .before .args in
     omega (arith, c .link-among .ensures, one-small (isAmong (args .b .now) (args .out) (args .v) (args .low) (args .high) (c .before .before .loop .k)))
 
-add-k : tie.Need-add-k Inv-loop μ-loop
-add-k c = search needs
-
-loop-less : tie.Need-loop-less Inv-loop μ-loop
-loop-less c = search needs
-
 loop-again : tie.Need-loop-again Inv-loop μ-loop
 loop-again c =
     let args = c .before .before .before .before .args in
@@ -56,12 +50,4 @@ pub links-among-spec : {M : Type 1} → statement M
 links-among-spec =
     tie.close
     (tie.spec
-    Inv-loop
-    μ-loop
-    loop-holds
-    link-among-requires
-    add-count
-    add-k
-    loop-less
-    loop-again
-    returns)
+    Inv-loop μ-loop loop-holds link-among-requires add-count (search needs) (search needs) loop-again returns)

@@ -6,24 +6,6 @@ use Rattle.port_lines.proofs.PortLines.{node-known, start-so, start-few
 use Rattle.port_lines.proofs.view_start.Statement.{statement}
 use Rattle.port_lines.proofs.view_start.Tie as tie
 
-port-node-requires : tie.Need-port-node-requires
-port-node-requires c κs = search needs
-
-first-line-requires : tie.Need-first-line-requires
-first-line-requires c κs = search needs
-
-mul-result : tie.Need-mul-result
-mul-result c = search needs
-
-add-result : tie.Need-add-result
-add-result c = search needs
-
-mul-word-at : tie.Need-mul-word-at
-mul-word-at c = search needs
-
-add-word-at : tie.Need-add-word-at
-add-word-at c = search needs
-
 word-at-requires : tie.Need-word-at-requires
 word-at-requires c κs =
     let pre = c .before .before .before .before .pre in
@@ -61,13 +43,5 @@ pub view-start-spec : {M : Type 1} → statement M
 view-start-spec =
     tie.close
     (tie.spec
-    port-node-requires
-    first-line-requires
-    mul-result
-    add-result
-    mul-word-at
-    add-word-at
-    word-at-requires
-    add-result-2
-    add-result-3
-    returns)
+    (λ c κs. search needs) (λ c κs. search needs) (search needs) (search needs) (search needs) (search needs) word-at-requires add-result-2
+    add-result-3 returns)

@@ -10,18 +10,6 @@ returns c =
     let start = c .before .before .before .before in
     beyond (start .args .b .now) (start .args .area .now) (start .args .n) (start .args .l) (start .args .p) (start .args .words .now) (c .if1 .taken)
 
-slot-records-requires : tie.Need-slot-records-requires
-slot-records-requires c κs = search needs
-
-enum-told : tie.Need-enum-told
-enum-told c = search needs
-
-enum-told-2 : tie.Need-enum-told-2
-enum-told-2 c = search needs
-
-same-length : tie.Need-same-length
-same-length c = search needs
-
 returns-2 : tie.Need-returns-2
 returns-2 c =
     let slotted = c .before .before .before .before in
@@ -32,9 +20,6 @@ find-straddling-requires c κs =
     let slotted = c .before .before .before .before .before in
     nodes-there (slotted .before .before .before .before .before .before .pre) (slotted .before .before .if1 .left) (slotted .slot-records .ensures) (c .before .enum-told .given .1)
 
-same-length-2 : tie.Need-same-length-2
-same-length-2 c = search needs
-
 returns-3 : tie.Need-returns-3
 returns-3 c =
     let slotted = c .before .before .before .before .before .before in
@@ -44,12 +29,4 @@ pub check-records-spec : {M : Type 1} → statement M
 check-records-spec =
     tie.close
     (tie.spec
-    returns
-    slot-records-requires
-    enum-told
-    enum-told-2
-    same-length
-    returns-2
-    find-straddling-requires
-    same-length-2
-    returns-3)
+    returns (λ c κs. search needs) (search needs) (search needs) (search needs) returns-2 find-straddling-requires (search needs) returns-3)

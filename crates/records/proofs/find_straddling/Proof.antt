@@ -29,12 +29,6 @@ returns c =
     let start = turn .before .before .before .before in
     first-bad 13 (straddlesHere (start .args .area .now) (start .args .words .now) (start .args .n) (start .args .l)) (start .args .n) (turn .before .loop .inv .1) (turn .loop-test .taken) (c .before .straddles .ensures) (c .if1 .taken)
 
-add-v : tie.Need-add-v Inv-loop μ-loop
-add-v c = search needs
-
-loop-less : tie.Need-loop-less Inv-loop μ-loop
-loop-less c = search needs
-
 loop-again : tie.Need-loop-again Inv-loop μ-loop
 loop-again c =
     let turn = c .before .before in
@@ -50,12 +44,4 @@ pub find-straddling-spec : {M : Type 1} → statement M
 find-straddling-spec =
     tie.close
     (tie.spec
-    Inv-loop
-    μ-loop
-    loop-holds
-    straddles-requires
-    returns
-    add-v
-    loop-less
-    loop-again
-    returns-2)
+    Inv-loop μ-loop loop-holds straddles-requires returns (search needs) (search needs) loop-again returns-2)

@@ -17,30 +17,6 @@ Inv-loop b n l p area₀ words count i₀ area i = (i ≤ count) × Scratched n 
 abbrev μ-loop : tie.MeasureT-loop
 μ-loop b n l p area₀ words count i₀ area i = count - i
 
-mul-fill : tie.Need-mul-fill Inv-loop μ-loop
-mul-fill c = search needs
-
-add-fill : tie.Need-add-fill Inv-loop μ-loop
-add-fill c = search needs
-
-mul-fill-2 : tie.Need-mul-fill-2 Inv-loop μ-loop
-mul-fill-2 c = search needs
-
-add-fill-2 : tie.Need-add-fill-2 Inv-loop μ-loop
-add-fill-2 c = search needs
-
-add-fill-3 : tie.Need-add-fill-3 Inv-loop μ-loop
-add-fill-3 c = search needs
-
-add-fill-4 : tie.Need-add-fill-4 Inv-loop μ-loop
-add-fill-4 c = search needs
-
-add-fill-5 : tie.Need-add-fill-5 Inv-loop μ-loop
-add-fill-5 c = search needs
-
-fill-requires : tie.Need-fill-requires Inv-loop μ-loop
-fill-requires c κs = search needs
-
 loop-holds : tie.Need-loop-holds Inv-loop μ-loop
 loop-holds c =
     let start = c .before .before .before .before .before .before .before in
@@ -52,9 +28,6 @@ check-record-requires c κs =
     let head = c .before .before in
     (head .loop .inv .2, (head .loop .inv .3, omega (arith, c .before .loop-test .taken, head .before .before .before .before .before .before .before .before .pre .1)))
 
-same-length : tie.Need-same-length Inv-loop μ-loop
-same-length c = search needs
-
 returns : tie.Need-returns Inv-loop μ-loop
 returns c =
     let tested = c .before .before .before in
@@ -62,12 +35,6 @@ returns c =
     let start = head .before .before .before .before .before .before .before .before in
     bad-found (start .pre .0) (within-both (cleared-kept (start .pre .0) (head .before .before .before .fill .ensures)) (head .loop .inv .1)) (head .loop .inv .3) (tested .before .before .loop-test .taken)
     (tested .check-record .ensures) (c .if1 .taken)
-
-add-i : tie.Need-add-i Inv-loop μ-loop
-add-i c = search needs
-
-loop-less : tie.Need-loop-less Inv-loop μ-loop
-loop-less c = search needs
 
 loop-again : tie.Need-loop-again Inv-loop μ-loop
 loop-again c =
@@ -79,9 +46,6 @@ loop-again c =
       passed-next (head .loop .inv .2) (head .loop .inv .3) (tested .check-record .ensures) (c .if1 .left),
     )
 
-same-length-2 : tie.Need-same-length-2 Inv-loop μ-loop
-same-length-2 c = search needs
-
 returns-2 : tie.Need-returns-2 Inv-loop μ-loop
 returns-2 c =
     let head = c .before in
@@ -92,22 +56,6 @@ pub slot-records-spec : {M : Type 1} → statement M
 slot-records-spec =
     tie.close
     (tie.spec
-    Inv-loop
-    μ-loop
-    mul-fill
-    add-fill
-    mul-fill-2
-    add-fill-2
-    add-fill-3
-    add-fill-4
-    add-fill-5
-    fill-requires
-    loop-holds
-    check-record-requires
-    same-length
-    returns
-    add-i
-    loop-less
-    loop-again
-    same-length-2
+    Inv-loop μ-loop (search needs) (search needs) (search needs) (search needs) (search needs) (search needs) (search needs)
+    (λ c κs. search needs) loop-holds check-record-requires (search needs) returns (search needs) (search needs) loop-again (search needs)
     returns-2)

@@ -9,33 +9,6 @@ use Rattle.tables.proofs.Words.{between}
 use Rattle.tables.proofs.entries.Statement.{statement}
 use Rattle.tables.proofs.entries.Tie as tie
 
-word-at-requires : tie.Need-word-at-requires
-word-at-requires c κs = search needs
-
-add-from : tie.Need-add-from
-add-from c = search needs
-
-add-word-at : tie.Need-add-word-at
-add-word-at c = search needs
-
-word-at-requires-2 : tie.Need-word-at-requires-2
-word-at-requires-2 c κs = search needs
-
-add-to : tie.Need-add-to
-add-to c = search needs
-
-mul-result : tie.Need-mul-result
-mul-result c = search needs
-
-sub-result : tie.Need-sub-result
-sub-result c = search needs
-
-part-result-start : tie.Need-part-result-start
-part-result-start c = search needs
-
-part-result-end : tie.Need-part-result-end
-part-result-end c = search needs
-
 returns : tie.Need-returns
 unfolding entriesOf
 returns c =
@@ -49,13 +22,5 @@ pub entries-spec : {M : Type 1} → statement M
 entries-spec =
     tie.close
     (tie.spec
-    word-at-requires
-    add-from
-    add-word-at
-    word-at-requires-2
-    add-to
-    mul-result
-    sub-result
-    part-result-start
-    part-result-end
-    returns)
+    (λ c κs. search needs) (search needs) (search needs) (λ c κs. search needs) (search needs) (search needs) (search needs) (search needs)
+    (search needs) returns)

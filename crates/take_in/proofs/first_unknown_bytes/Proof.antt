@@ -22,15 +22,6 @@ abbrev μ-loop : tie.MeasureT-loop
 loop-holds : tie.Need-loop-holds Inv-loop μ-loop
 loop-holds c = clean-starts _ _
 
-mul-field-at : tie.Need-mul-field-at Inv-loop μ-loop
-mul-field-at c = search needs
-
-field-at-requires : tie.Need-field-at-requires Inv-loop μ-loop
-field-at-requires c κs = search needs
-
-wide-requires : tie.Need-wide-requires Inv-loop μ-loop
-wide-requires c κs = search needs
-
 returns : tie.Need-returns Inv-loop μ-loop
 unfolding earliest
 returns c =
@@ -41,12 +32,6 @@ returns c =
     let here = looping .loop-test .taken in
     bad-at (looping .before .loop .inv) (omega (arith, here, length-wordsFrom list))
     (le-leb (start .args .n) (getD (wordsFrom list) i 0) (omega (arith, c .before .wide .ensures, c .before .before .field-at .ensures, entry-word list i here)))
-
-add-i : tie.Need-add-i Inv-loop μ-loop
-add-i c = search needs
-
-loop-less : tie.Need-loop-less Inv-loop μ-loop
-loop-less c = search needs
 
 loop-again : tie.Need-loop-again Inv-loop μ-loop
 loop-again c =
@@ -66,14 +51,5 @@ pub first-unknown-bytes-spec : {M : Type 1} → statement M
 first-unknown-bytes-spec =
     tie.close
     (tie.spec
-    Inv-loop
-    μ-loop
-    loop-holds
-    mul-field-at
-    field-at-requires
-    wide-requires
-    returns
-    add-i
-    loop-less
-    loop-again
+    Inv-loop μ-loop loop-holds (search needs) (λ c κs. search needs) (λ c κs. search needs) returns (search needs) (search needs) loop-again
     returns-2)

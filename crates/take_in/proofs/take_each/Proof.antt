@@ -18,19 +18,10 @@ abbrev μ-loop : tie.MeasureT-loop
 loop-holds : tie.Need-loop-holds Inv-loop μ-loop
 loop-holds c = each-starts _ (c .before .before .pre .1)
 
-mul-take-node : tie.Need-mul-take-node Inv-loop μ-loop
-mul-take-node c = search needs
-
-shared-slice-read-take-node : tie.Need-shared-slice-read-take-node Inv-loop μ-loop
-shared-slice-read-take-node c = search needs
-
 take-node-requires : tie.Need-take-node-requires Inv-loop μ-loop
 take-node-requires c κs =
     let looping = c .before .before in
     (looping .before .loop .inv .taking, looping .before .before .before .before .pre .0 .entry _ (looping .loop-test .taken))
-
-same-length : tie.Need-same-length Inv-loop μ-loop
-same-length c = search needs
 
 returns : tie.Need-returns Inv-loop μ-loop
 returns c =
@@ -38,20 +29,11 @@ returns c =
     let looping = took .before .before .before in
     each-stops (looping .before .loop .inv) (looping .loop-test .taken) refl (took .take-node .ensures) (c .if1 .taken)
 
-add-i : tie.Need-add-i Inv-loop μ-loop
-add-i c = search needs
-
-loop-less : tie.Need-loop-less Inv-loop μ-loop
-loop-less c = search needs
-
 loop-again : tie.Need-loop-again Inv-loop μ-loop
 loop-again c =
     let took = c .before .before .before in
     let looping = took .before .before .before in
     each-on (looping .before .loop .inv) (looping .loop-test .taken) refl (took .take-node .ensures) (c .if1 .left)
-
-same-length-2 : tie.Need-same-length-2 Inv-loop μ-loop
-same-length-2 c = search needs
 
 returns-2 : tie.Need-returns-2 Inv-loop μ-loop
 returns-2 c = each-ends (c .before .loop .inv) (omega arith)
@@ -60,16 +42,5 @@ pub take-each-spec : {M : Type 1} → statement M
 take-each-spec =
     tie.close
     (tie.spec
-    Inv-loop
-    μ-loop
-    loop-holds
-    mul-take-node
-    shared-slice-read-take-node
-    take-node-requires
-    same-length
-    returns
-    add-i
-    loop-less
-    loop-again
-    same-length-2
-    returns-2)
+    Inv-loop μ-loop loop-holds (search needs) (search needs) take-node-requires (search needs) returns (search needs) (search needs)
+    loop-again (search needs) returns-2)

@@ -20,12 +20,6 @@ abbrev μ-loop : tie.MeasureT-loop
 loop-holds : tie.Need-loop-holds Inv-loop μ-loop
 loop-holds c = each-starts _ (c .before .before .pre .1)
 
-mul-field-at : tie.Need-mul-field-at Inv-loop μ-loop
-mul-field-at c = search needs
-
-field-at-requires : tie.Need-field-at-requires Inv-loop μ-loop
-field-at-requires c κs = search needs
-
 take-node-requires : tie.Need-take-node-requires Inv-loop μ-loop
 take-node-requires c κs =
     let read = c .before in
@@ -35,9 +29,6 @@ take-node-requires c κs =
     let i = looping .before .loop .i in
     let here = looping .loop-test .taken in
     (looping .before .loop .inv .taking, omega (arith, read .field-at .ensures, entry-word list i here, start .pre .0 .entry i (omega (arith, here, length-wordsFrom list))))
-
-same-length : tie.Need-same-length Inv-loop μ-loop
-same-length c = search needs
 
 returns : tie.Need-returns Inv-loop μ-loop
 returns c =
@@ -49,12 +40,6 @@ returns c =
     each-stops (looping .before .loop .inv) (omega (arith, here, length-wordsFrom list))
     (read .field-at .ensures ∙ sym (entry-word list (looping .before .loop .i) here)) (took .take-node .ensures) (c .if1 .taken)
 
-add-i : tie.Need-add-i Inv-loop μ-loop
-add-i c = search needs
-
-loop-less : tie.Need-loop-less Inv-loop μ-loop
-loop-less c = search needs
-
 loop-again : tie.Need-loop-again Inv-loop μ-loop
 loop-again c =
     let took = c .before .before .before in
@@ -65,9 +50,6 @@ loop-again c =
     each-on (looping .before .loop .inv) (omega (arith, here, length-wordsFrom list))
     (read .field-at .ensures ∙ sym (entry-word list (looping .before .loop .i) here)) (took .take-node .ensures) (c .if1 .left)
 
-same-length-2 : tie.Need-same-length-2 Inv-loop μ-loop
-same-length-2 c = search needs
-
 returns-2 : tie.Need-returns-2 Inv-loop μ-loop
 returns-2 c = each-ends (c .before .loop .inv) (omega (arith, length-wordsFrom (c .before .before .before .before .args .list .now)))
 
@@ -75,16 +57,5 @@ pub take-each-bytes-spec : {M : Type 1} → statement M
 take-each-bytes-spec =
     tie.close
     (tie.spec
-    Inv-loop
-    μ-loop
-    loop-holds
-    mul-field-at
-    field-at-requires
-    take-node-requires
-    same-length
-    returns
-    add-i
-    loop-less
-    loop-again
-    same-length-2
-    returns-2)
+    Inv-loop μ-loop loop-holds (search needs) (λ c κs. search needs) take-node-requires (search needs) returns (search needs) (search needs)
+    loop-again (search needs) returns-2)

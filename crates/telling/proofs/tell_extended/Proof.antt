@@ -10,21 +10,6 @@ use borrow.Author.Needs.{needs}
 use Rattle.telling.proofs.tell_extended.Statement.{statement}
 use Rattle.telling.proofs.tell_extended.Tie as tie
 
-enum-known-answer : tie.Need-enum-known-answer
-enum-known-answer c = search needs
-
-put-requires : tie.Need-put-requires
-put-requires c κs = search needs
-
-enum-told : tie.Need-enum-told
-enum-told c = search needs
-
-enum-known-answer-2 : tie.Need-enum-known-answer-2
-enum-known-answer-2 c = search needs
-
-tell-refusal-requires : tie.Need-tell-refusal-requires
-tell-refusal-requires c κs = search needs
-
 returns : tie.Need-returns
 unfolding inWritten
 returns c = answer-told inWritten _ (ap extendSaid (c .before .before .before .answer .given .1)) refl (ap (λ (n : ℕ). n ∷ []) (c .put .ensures))
@@ -40,11 +25,4 @@ pub tell-extended-spec : {M : Type 1} → statement M
 tell-extended-spec =
     tie.close
     (tie.spec
-    enum-known-answer
-    put-requires
-    enum-told
-    enum-known-answer-2
-    tell-refusal-requires
-    returns
-    returns-2
-    returns-3)
+    (search needs) (λ c κs. search needs) (search needs) (search needs) (λ c κs. search needs) returns returns-2 returns-3)

@@ -10,24 +10,6 @@ use borrow.Author.Needs.{needs}
 use Rattle.telling.proofs.tell_line.Statement.{statement}
 use Rattle.telling.proofs.tell_line.Tie as tie
 
-enum-known-answer : tie.Need-enum-known-answer
-enum-known-answer c = search needs
-
-put-requires : tie.Need-put-requires
-put-requires c κs = search needs
-
-enum-known-answer-2 : tie.Need-enum-known-answer-2
-enum-known-answer-2 c = search needs
-
-put-requires-2 : tie.Need-put-requires-2
-put-requires-2 c κs = search needs
-
-enum-known-answer-3 : tie.Need-enum-known-answer-3
-enum-known-answer-3 c = search needs
-
-tell-refusal-requires : tie.Need-tell-refusal-requires
-tell-refusal-requires c κs = search needs
-
 returns : tie.Need-returns
 unfolding inLineReply
 returns c = answer-told inLineReply _ (ap lineSaid (c .before .before .before .answer .given .1)) refl (ap (λ (n : ℕ). n ∷ []) (c .put .ensures))
@@ -43,12 +25,5 @@ pub tell-line-spec : {M : Type 1} → statement M
 tell-line-spec =
     tie.close
     (tie.spec
-    enum-known-answer
-    put-requires
-    enum-known-answer-2
-    put-requires-2
-    enum-known-answer-3
-    tell-refusal-requires
-    returns
-    returns-2
+    (search needs) (λ c κs. search needs) (search needs) (λ c κs. search needs) (search needs) (λ c κs. search needs) returns returns-2
     returns-3)

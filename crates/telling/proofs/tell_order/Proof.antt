@@ -8,18 +8,6 @@ use borrow.Author.Needs.{needs}
 use Rattle.telling.proofs.tell_order.Statement.{statement}
 use Rattle.telling.proofs.tell_order.Tie as tie
 
-enum-told : tie.Need-enum-told
-enum-told c = search needs
-
-enum-told-2 : tie.Need-enum-told-2
-enum-told-2 c = search needs
-
-enum-known-answer : tie.Need-enum-known-answer
-enum-known-answer c = search needs
-
-tell-refusal-requires : tie.Need-tell-refusal-requires
-tell-refusal-requires c κs = search needs
-
 returns : tie.Need-returns
 unfolding inReply
 returns c = answer-told inReply _ (ap topoSaid (c .enum-told .given .1)) refl refl
@@ -35,10 +23,4 @@ pub tell-order-spec : {M : Type 1} → statement M
 tell-order-spec =
     tie.close
     (tie.spec
-    enum-told
-    enum-told-2
-    enum-known-answer
-    tell-refusal-requires
-    returns
-    returns-2
-    returns-3)
+    (search needs) (search needs) (search needs) (λ c κs. search needs) returns returns-2 returns-3)

@@ -10,21 +10,6 @@ use borrow.Author.Needs.{needs}
 use Rattle.telling.proofs.tell_port.Statement.{statement}
 use Rattle.telling.proofs.tell_port.Tie as tie
 
-enum-known-answer : tie.Need-enum-known-answer
-enum-known-answer c = search needs
-
-put-requires : tie.Need-put-requires
-put-requires c κs = search needs
-
-put-requires-2 : tie.Need-put-requires-2
-put-requires-2 c κs = search needs
-
-enum-known-answer-2 : tie.Need-enum-known-answer-2
-enum-known-answer-2 c = search needs
-
-tell-refusal-requires : tie.Need-tell-refusal-requires
-tell-refusal-requires c κs = search needs
-
 returns : tie.Need-returns
 unfolding inPair
 returns c =
@@ -38,10 +23,4 @@ pub tell-port-spec : {M : Type 1} → statement M
 tell-port-spec =
     tie.close
     (tie.spec
-    enum-known-answer
-    put-requires
-    put-requires-2
-    enum-known-answer-2
-    tell-refusal-requires
-    returns
-    returns-2)
+    (search needs) (λ c κs. search needs) (λ c κs. search needs) (search needs) (λ c κs. search needs) returns returns-2)

@@ -10,18 +10,6 @@ use borrow.Author.Needs.{needs}
 use Rattle.telling.proofs.tell_prepared.Statement.{statement}
 use Rattle.telling.proofs.tell_prepared.Tie as tie
 
-enum-known-answer : tie.Need-enum-known-answer
-enum-known-answer c = search needs
-
-put-requires : tie.Need-put-requires
-put-requires c κs = search needs
-
-enum-known-answer-2 : tie.Need-enum-known-answer-2
-enum-known-answer-2 c = search needs
-
-tell-refusal-requires : tie.Need-tell-refusal-requires
-tell-refusal-requires c κs = search needs
-
 returns : tie.Need-returns
 unfolding inCount
 returns c = answer-told inCount _ (ap preparedSaid (c .before .before .before .answer .given .1)) refl (ap (λ (n : ℕ). n ∷ []) (c .put .ensures))
@@ -33,9 +21,4 @@ pub tell-prepared-spec : {M : Type 1} → statement M
 tell-prepared-spec =
     tie.close
     (tie.spec
-    enum-known-answer
-    put-requires
-    enum-known-answer-2
-    tell-refusal-requires
-    returns
-    returns-2)
+    (search needs) (λ c κs. search needs) (search needs) (λ c κs. search needs) returns returns-2)

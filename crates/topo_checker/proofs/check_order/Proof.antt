@@ -5,39 +5,6 @@ use Rattle.topo_checker.proofs.Checking.{unlisted, laid-now, fresh, ord
 use Rattle.topo_checker.proofs.check_order.Statement.{statement}
 use Rattle.topo_checker.proofs.check_order.Tie as tie
 
-mul-marks : tie.Need-mul-marks
-mul-marks c = search needs
-
-add-marks : tie.Need-add-marks
-add-marks c = search needs
-
-mul-marks-2 : tie.Need-mul-marks-2
-mul-marks-2 c = search needs
-
-add-marks-2 : tie.Need-add-marks-2
-add-marks-2 c = search needs
-
-add-marks-3 : tie.Need-add-marks-3
-add-marks-3 c = search needs
-
-add-marks-4 : tie.Need-add-marks-4
-add-marks-4 c = search needs
-
-add-marks-5 : tie.Need-add-marks-5
-add-marks-5 c = search needs
-
-add-marks-6 : tie.Need-add-marks-6
-add-marks-6 c = search needs
-
-add-marks-7 : tie.Need-add-marks-7
-add-marks-7 c = search needs
-
-add-marks-8 : tie.Need-add-marks-8
-add-marks-8 c = search needs
-
-lay-out-requires : tie.Need-lay-out-requires
-lay-out-requires c κs = search needs
-
 take-list-requires : tie.Need-take-list-requires
 take-list-requires c κs =
     let laid = c .before .before .before in
@@ -50,9 +17,6 @@ answer-for-requires c κs =
     let usable = laid .before .before .before .before .before .pre in
     (laid-now usable (laid .lay-out .ensures) (taken .take-list .ensures), fresh usable (laid .lay-out .ensures) (taken .take-list .ensures))
 
-same-length : tie.Need-same-length
-same-length c = search needs
-
 returns : tie.Need-returns
 returns c =
     let said = c .before .before in
@@ -64,18 +28,5 @@ pub check-order-spec : {M : Type 1} → statement M
 check-order-spec =
     tie.close
     (tie.spec
-    mul-marks
-    add-marks
-    mul-marks-2
-    add-marks-2
-    add-marks-3
-    add-marks-4
-    add-marks-5
-    add-marks-6
-    add-marks-7
-    add-marks-8
-    lay-out-requires
-    take-list-requires
-    answer-for-requires
-    same-length
-    returns)
+    (search needs) (search needs) (search needs) (search needs) (search needs) (search needs) (search needs) (search needs) (search needs)
+    (search needs) (λ c κs. search needs) take-list-requires answer-for-requires (search needs) returns)

@@ -15,12 +15,10 @@ fill-requires c κs = filled-room (c .before .before .before .before .before .be
 tally-requires : tie.Need-tally-requires
 tally-requires c κs = (keyed (c .before .before .before .before .before .before .before .before .before .before .before .pre) (c .before .before .before .before .before .before .before .target-nodes .ensures) (c .before .before .before .fill .ensures), zeros (c .before .before .before .before .before .before .before .before .before .before .before .pre) (c .before .before .before .before .before .before .before .target-nodes .ensures) (c .before .before .before .fill .ensures))
 
-same-length : tie.Need-same-length
-same-length c = search needs
-
 returns : tie.Need-returns
 returns c = counted (c .before .before .before .before .before .before .before .before .before .before .before .before .before .before .pre) (c .before .before .before .before .before .before .before .before .before .before .target-nodes .ensures) (c .before .before .before .before .before .before .fill .ensures) (c .before .before .tally .ensures)
 
 pub count-inputs-spec : {M : Type 1} → statement M
 count-inputs-spec =
-    tie.close (tie.spec target-nodes-requires fill-requires tally-requires same-length returns)
+    tie.close (tie.spec
+    target-nodes-requires fill-requires tally-requires (search needs) returns)

@@ -19,9 +19,6 @@ lowest-left-requires c κs =
     room₃ (c .before .before .before .before .before .before .before .before .before .before .before .before .before .before .before .pre) (c .before .before .before .before .before .before .before .before .before .before .before .count-inputs .ensures) (c .before .before .before .before .before .before .before .free-nodes .ensures .0) (c .before .before .before .before .before .before .before .free-nodes .ensures .1)
     (c .before .before .before .all-turns .ensures .1)
 
-same-length : tie.Need-same-length
-same-length c = search needs
-
 returns : tie.Need-returns
 returns c = (
   said (c .before .before .before .before .before .before .before .before .before .before .before .before .before .before .before .before .pre) (c .before .before .before .before .before .before .before .before .before .before .before .before .count-inputs .ensures) (c .before .before .before .before .before .before .before .before .free-nodes .ensures .0) (c .before .before .before .before .before .before .before .before .free-nodes .ensures .1)
@@ -34,9 +31,4 @@ pub toposort-spec : {M : Type 1} → statement M
 toposort-spec =
     tie.close
     (tie.spec
-    count-inputs-requires
-    free-nodes-requires
-    all-turns-requires
-    lowest-left-requires
-    same-length
-    returns)
+    count-inputs-requires free-nodes-requires all-turns-requires lowest-left-requires (search needs) returns)

@@ -5,17 +5,9 @@ use Rattle.walk.proofs.Starting.{walks}
 use Rattle.walk.proofs.walk.Statement.{statement}
 use Rattle.walk.proofs.walk.Tie as tie
 
-start-requires : tie.Need-start-requires
-start-requires c κs = search needs
-
-turns-requires : tie.Need-turns-requires
-turns-requires c κs = search needs
-
-same-length : tie.Need-same-length
-same-length c = search needs
-
 returns : tie.Need-returns
 returns c = walks (c .before .before .before .before .before .before .before .before .before .before .before .pre .0) (c .before .before .before .before .before .before .before .before .before .before .before .pre .1) (c .before .before .before .before .before .before .start .ensures) (c .before .before .turns .ensures)
 
 pub walk-spec : {M : Type 1} → statement M
-walk-spec = tie.close (tie.spec start-requires turns-requires same-length returns)
+walk-spec = tie.close (tie.spec
+    (λ c κs. search needs) (λ c κs. search needs) (search needs) returns)

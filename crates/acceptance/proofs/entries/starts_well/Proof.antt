@@ -18,38 +18,11 @@ Inv-loop area at count end i₀ i = (i ≤ count) × ((j : ℕ) → j < i → lt
 abbrev μ-loop : tie.MeasureT-loop
 μ-loop area at count end i₀ i = count - i
 
-mul-if1 : tie.Need-mul-if1 Inv-loop μ-loop
-mul-if1 c = search needs
-
-shared-slice-read-if1 : tie.Need-shared-slice-read-if1 Inv-loop μ-loop
-shared-slice-read-if1 c = search needs
-
 returns : tie.Need-returns Inv-loop μ-loop
 returns c = starts-late (c .before .before .before .args .area .now) (c .before .before .before .args .at) _ _ (c .if1 .taken)
 
 loop-holds : tie.Need-loop-holds Inv-loop μ-loop
 loop-holds c = (omega arith, below-none _)
-
-add-if2 : tie.Need-add-if2 Inv-loop μ-loop
-add-if2 c = search needs
-
-mul-if2 : tie.Need-mul-if2 Inv-loop μ-loop
-mul-if2 c = search needs
-
-shared-slice-read-if2 : tie.Need-shared-slice-read-if2 Inv-loop μ-loop
-shared-slice-read-if2 c = search needs
-
-add-if2-2 : tie.Need-add-if2-2 Inv-loop μ-loop
-add-if2-2 c = search needs
-
-add-if2-3 : tie.Need-add-if2-3 Inv-loop μ-loop
-add-if2-3 c = search needs
-
-mul-if2-2 : tie.Need-mul-if2-2 Inv-loop μ-loop
-mul-if2-2 c = search needs
-
-shared-slice-read-if2-2 : tie.Need-shared-slice-read-if2-2 Inv-loop μ-loop
-shared-slice-read-if2-2 c = search needs
 
 returns-2 : tie.Need-returns-2 Inv-loop μ-loop
 returns-2 c =
@@ -58,29 +31,11 @@ returns-2 c =
     let start = at-if1 .before .before .before in
     starts-fall (start .args .area .now) (start .args .at) _ _ (at-if1 .if1 .left) (turn .loop-test .taken) (omega (arith, c .if2 .taken))
 
-add-i : tie.Need-add-i Inv-loop μ-loop
-add-i c = search needs
-
-loop-less : tie.Need-loop-less Inv-loop μ-loop
-loop-less c = search needs
-
 loop-again : tie.Need-loop-again Inv-loop μ-loop
 loop-again c =
     let head = c .before .before .before .before in
     let start = head .before .before .before .before in
     (omega arith, below-more _ _ (head .loop .inv .1) (starts-rise (start .args .area .now) (start .args .at) (start .args .count) (start .args .end) (head .loop .i) (omega (arith, c .if2 .left))))
-
-add-wide : tie.Need-add-wide Inv-loop μ-loop
-add-wide c = search needs
-
-mul-wide : tie.Need-mul-wide Inv-loop μ-loop
-mul-wide c = search needs
-
-shared-slice-read-wide : tie.Need-shared-slice-read-wide Inv-loop μ-loop
-shared-slice-read-wide c = search needs
-
-wide-requires : tie.Need-wide-requires Inv-loop μ-loop
-wide-requires c κs = search needs
 
 returns-3 : tie.Need-returns-3 Inv-loop μ-loop
 returns-3 c =
@@ -93,25 +48,6 @@ pub starts-well-spec : {M : Type 1} → statement M
 starts-well-spec =
     tie.close
     (tie.spec
-    Inv-loop
-    μ-loop
-    mul-if1
-    shared-slice-read-if1
-    returns
-    loop-holds
-    add-if2
-    mul-if2
-    shared-slice-read-if2
-    add-if2-2
-    add-if2-3
-    mul-if2-2
-    shared-slice-read-if2-2
-    returns-2
-    add-i
-    loop-less
-    loop-again
-    add-wide
-    mul-wide
-    shared-slice-read-wide
-    wide-requires
-    returns-3)
+    Inv-loop μ-loop (search needs) (search needs) returns loop-holds (search needs) (search needs) (search needs) (search needs)
+    (search needs) (search needs) (search needs) returns-2 (search needs) (search needs) loop-again (search needs) (search needs)
+    (search needs) (λ c κs. search needs) returns-3)

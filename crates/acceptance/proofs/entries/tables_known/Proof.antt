@@ -7,38 +7,8 @@ use Rattle.acceptance.proofs.Known.{starts-told, entries-told, node-sta
 use Rattle.acceptance.proofs.entries.tables_known.Statement.{statement}
 use Rattle.acceptance.proofs.entries.tables_known.Tie as tie
 
-mul-starts-well : tie.Need-mul-starts-well
-mul-starts-well c = search needs
-
-add-starts-well : tie.Need-add-starts-well
-add-starts-well c = search needs
-
-add-starts-well-2 : tie.Need-add-starts-well-2
-add-starts-well-2 c = search needs
-
-starts-well-requires : tie.Need-starts-well-requires
-starts-well-requires c κs = search needs
-
 returns : tie.Need-returns
 returns c = node-starts-bad (c .before .before .before .args .area .now) (c .before .before .before .args .n) (c .before .before .before .args .l) (c .before .before .before .args .k) (starts-told (nodeStart (c .before .before .before .args .area .now) (c .before .before .before .args .n)) _ _ (c .before .starts-well .ensures)) (c .if1 .taken)
-
-mul-starts-well-2 : tie.Need-mul-starts-well-2
-mul-starts-well-2 c = search needs
-
-add-starts-well-3 : tie.Need-add-starts-well-3
-add-starts-well-3 c = search needs
-
-mul-starts-well-3 : tie.Need-mul-starts-well-3
-mul-starts-well-3 c = search needs
-
-add-starts-well-4 : tie.Need-add-starts-well-4
-add-starts-well-4 c = search needs
-
-add-starts-well-5 : tie.Need-add-starts-well-5
-add-starts-well-5 c = search needs
-
-starts-well-requires-2 : tie.Need-starts-well-requires-2
-starts-well-requires-2 c κs = search needs
 
 returns-2 : tie.Need-returns-2
 returns-2 c =
@@ -46,18 +16,6 @@ returns-2 c =
     let start = at-starts-well .before .before in
     line-starts-bad (start .args .area .now) (start .args .n) (start .args .l) (start .args .k) (starts-told (nodeStart (start .args .area .now) (start .args .n)) _ _ (at-starts-well .starts-well .ensures)) (c .before .before .if1 .left)
     (starts-told (lineStart (start .args .area .now) (start .args .n) (start .args .l)) _ _ (c .before .starts-well2 .ensures)) (c .if2 .taken)
-
-mul-entries-below : tie.Need-mul-entries-below
-mul-entries-below c = search needs
-
-add-entries-below : tie.Need-add-entries-below
-add-entries-below c = search needs
-
-add-entries-below-2 : tie.Need-add-entries-below-2
-add-entries-below-2 c = search needs
-
-entries-below-requires : tie.Need-entries-below-requires
-entries-below-requires c κs = search needs
 
 returns-3 : tie.Need-returns-3
 returns-3 c =
@@ -68,24 +26,6 @@ returns-3 c =
     lines-bad (start .args .area .now) (start .args .n) (start .args .l) (start .args .k) (starts-told (nodeStart (start .args .area .now) (start .args .n)) _ _ (at-starts-well .starts-well .ensures)) (at-if1 .if1 .left)
     (starts-told (lineStart (start .args .area .now) (start .args .n) (start .args .l)) _ _ (at-starts-well2 .starts-well2 .ensures)) (c .before .before .if2 .left)
     (entries-told (start .args .area .now) (linesAt (start .args .n)) (start .args .l + start .args .k) (start .args .k) (c .before .entries-below .ensures)) (c .if3 .taken)
-
-mul-entries-below-2 : tie.Need-mul-entries-below-2
-mul-entries-below-2 c = search needs
-
-add-entries-below-3 : tie.Need-add-entries-below-3
-add-entries-below-3 c = search needs
-
-mul-entries-below-3 : tie.Need-mul-entries-below-3
-mul-entries-below-3 c = search needs
-
-add-entries-below-4 : tie.Need-add-entries-below-4
-add-entries-below-4 c = search needs
-
-add-entries-below-5 : tie.Need-add-entries-below-5
-add-entries-below-5 c = search needs
-
-entries-below-requires-2 : tie.Need-entries-below-requires-2
-entries-below-requires-2 c κs = search needs
 
 returns-4 : tie.Need-returns-4
 returns-4 c =
@@ -103,27 +43,6 @@ pub tables-known-spec : {M : Type 1} → statement M
 tables-known-spec =
     tie.close
     (tie.spec
-    mul-starts-well
-    add-starts-well
-    add-starts-well-2
-    starts-well-requires
-    returns
-    mul-starts-well-2
-    add-starts-well-3
-    mul-starts-well-3
-    add-starts-well-4
-    add-starts-well-5
-    starts-well-requires-2
-    returns-2
-    mul-entries-below
-    add-entries-below
-    add-entries-below-2
-    entries-below-requires
-    returns-3
-    mul-entries-below-2
-    add-entries-below-3
-    mul-entries-below-3
-    add-entries-below-4
-    add-entries-below-5
-    entries-below-requires-2
-    returns-4)
+    (search needs) (search needs) (search needs) (λ c κs. search needs) returns (search needs) (search needs) (search needs) (search needs)
+    (search needs) (λ c κs. search needs) returns-2 (search needs) (search needs) (search needs) (λ c κs. search needs) returns-3
+    (search needs) (search needs) (search needs) (search needs) (search needs) (λ c κs. search needs) returns-4)

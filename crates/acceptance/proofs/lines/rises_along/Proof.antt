@@ -23,30 +23,6 @@ module _ (s : tie.After-wide2 Inv-loop μ-loop) where
   at-next : s .wide2 .result < length (s .before .before .before .before .before .before .before .before .args .positions .now)
   at-next = omega (arith, s .before .before .before .before .before .before .before .before .pre (s .before .before .before .before .before .loop .i) (s .before .before .before .before .loop-test .taken), s .wide2 .ensures)
 
-loop-holds : tie.Need-loop-holds Inv-loop μ-loop
-loop-holds c = search needs
-
-sub-wide : tie.Need-sub-wide Inv-loop μ-loop
-sub-wide c = search needs
-
-mul-wide : tie.Need-mul-wide Inv-loop μ-loop
-mul-wide c = search needs
-
-shared-slice-read-wide : tie.Need-shared-slice-read-wide Inv-loop μ-loop
-shared-slice-read-wide c = search needs
-
-wide-requires : tie.Need-wide-requires Inv-loop μ-loop
-wide-requires c κs = search needs
-
-mul-wide-2 : tie.Need-mul-wide-2 Inv-loop μ-loop
-mul-wide-2 c = search needs
-
-shared-slice-read-wide-2 : tie.Need-shared-slice-read-wide-2 Inv-loop μ-loop
-shared-slice-read-wide-2 c = search needs
-
-wide-requires-2 : tie.Need-wide-requires-2 Inv-loop μ-loop
-wide-requires-2 c κs = search needs
-
 mul-if1 : tie.Need-mul-if1 Inv-loop μ-loop
 mul-if1 c = omega (arith, at-first c)
 
@@ -68,12 +44,6 @@ returns c =
     let start = head .before .before .before in
     fall (λ v. getD (start .args .positions .now) v 0) (start .args .line .now) (head .loop .i) (head .loop .inv .0) (at-wide .wide .ensures) (at-wide2 .wide2 .ensures) (turn .loop-test .taken) (omega (arith, c .if1 .taken))
 
-add-i : tie.Need-add-i Inv-loop μ-loop
-add-i c = search needs
-
-loop-less : tie.Need-loop-less Inv-loop μ-loop
-loop-less c = search needs
-
 loop-again : tie.Need-loop-again Inv-loop μ-loop
 loop-again c =
     let at-wide2 = c .before .before .before in
@@ -91,22 +61,6 @@ pub rises-along-spec : {M : Type 1} → statement M
 rises-along-spec =
     tie.close
     (tie.spec
-    Inv-loop
-    μ-loop
-    loop-holds
-    sub-wide
-    mul-wide
-    shared-slice-read-wide
-    wide-requires
-    mul-wide-2
-    shared-slice-read-wide-2
-    wide-requires-2
-    mul-if1
-    shared-slice-read-if1
-    mul-if1-2
-    shared-slice-read-if1-2
-    returns
-    add-i
-    loop-less
-    loop-again
+    Inv-loop μ-loop (search needs) (search needs) (search needs) (search needs) (λ c κs. search needs) (search needs) (search needs)
+    (λ c κs. search needs) mul-if1 shared-slice-read-if1 mul-if1-2 shared-slice-read-if1-2 returns (search needs) (search needs) loop-again
     returns-2)

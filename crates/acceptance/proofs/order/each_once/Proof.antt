@@ -9,12 +9,6 @@ use Rattle.acceptance.proofs.Places.{unknown-not-once, places-known, al
 use Rattle.acceptance.proofs.order.each_once.Statement.{statement}
 use Rattle.acceptance.proofs.order.each_once.Tie as tie
 
-keep-places-requires : tie.Need-keep-places-requires
-keep-places-requires c κs = search needs
-
-same-length : tie.Need-same-length
-same-length c = search needs
-
 returns : tie.Need-returns
 returns c = (says-no (unknown-not-once (c .before .before .before .keep-places .ensures .stray (subst T (sym (c .if1 .taken)) tt))), λ t. absurd t)
 
@@ -23,9 +17,6 @@ at-places-requires c κs =
     let at-keep-places = c .before .before .before .before in
     let start = at-keep-places .before .before .before .before in
     places-known (at-keep-places .keep-places .ensures .kept (holds (at-keep-places .keep-places .result) (c .before .if1 .left))) (omega (arith, start .pre .0, at-keep-places .keep-places .kept .1 .0))
-
-same-length-2 : tie.Need-same-length-2
-same-length-2 c = search needs
 
 returns-2 : tie.Need-returns-2
 returns-2 c =
@@ -37,4 +28,5 @@ returns-2 c =
 pub each-once-spec : {M : Type 1} → statement M
 each-once-spec =
     tie.close
-    (tie.spec keep-places-requires same-length returns at-places-requires same-length-2 returns-2)
+    (tie.spec
+    (λ c κs. search needs) (search needs) returns at-places-requires (search needs) returns-2)

@@ -19,35 +19,8 @@ abbrev μ-loop : tie.MeasureT-loop
 loop-holds : tie.Need-loop-holds Inv-loop μ-loop
 loop-holds c = (omega arith, refl, kept-none _ _)
 
-mul-wide : tie.Need-mul-wide Inv-loop μ-loop
-mul-wide c = search needs
-
-shared-slice-read-wide : tie.Need-shared-slice-read-wide Inv-loop μ-loop
-shared-slice-read-wide c = search needs
-
-wide-requires : tie.Need-wide-requires Inv-loop μ-loop
-wide-requires c κs = search needs
-
-same-length : tie.Need-same-length Inv-loop μ-loop
-same-length c = search needs
-
 returns : tie.Need-returns Inv-loop μ-loop
 returns c = strays _ _ (c .before .before .before .loop-test .taken) (c .before .wide .ensures) (omega (arith, c .if1 .taken))
-
-cast-places : tie.Need-cast-places Inv-loop μ-loop
-cast-places c = search needs
-
-mul-places : tie.Need-mul-places Inv-loop μ-loop
-mul-places c = search needs
-
-slice-write-places : tie.Need-slice-write-places Inv-loop μ-loop
-slice-write-places c = search needs
-
-add-i : tie.Need-add-i Inv-loop μ-loop
-add-i c = search needs
-
-loop-less : tie.Need-loop-less Inv-loop μ-loop
-loop-less c = search needs
 
 loop-again : tie.Need-loop-again Inv-loop μ-loop
 loop-again c =
@@ -59,9 +32,6 @@ loop-again c =
       kept-next (head .loop .inv .2) (turn .loop-test .taken) (c .before .wide .ensures) (omega (arith, c .if1 .left)) (omega (arith, start .pre .0, head .loop .inv .1)),
     )
 
-same-length-2 : tie.Need-same-length-2 Inv-loop μ-loop
-same-length-2 c = search needs
-
 returns-2 : tie.Need-returns-2 Inv-loop μ-loop
 returns-2 c = all-kept (c .before .loop .inv .2) (c .before .loop .inv .0) (c .loop-test .left)
 
@@ -69,19 +39,5 @@ pub keep-places-spec : {M : Type 1} → statement M
 keep-places-spec =
     tie.close
     (tie.spec
-    Inv-loop
-    μ-loop
-    loop-holds
-    mul-wide
-    shared-slice-read-wide
-    wide-requires
-    same-length
-    returns
-    cast-places
-    mul-places
-    slice-write-places
-    add-i
-    loop-less
-    loop-again
-    same-length-2
-    returns-2)
+    Inv-loop μ-loop loop-holds (search needs) (search needs) (λ c κs. search needs) (search needs) returns (search needs) (search needs)
+    (search needs) (search needs) (search needs) loop-again (search needs) returns-2)

@@ -62,12 +62,6 @@ returns c =
     let start = head .before .before .before in
     link-back (start .args .b .now) (start .args .places .now) (head .loop .k) (at-link-from .link-from .ensures) (at-link-to .link-to .ensures) (turn .loop-test .taken) (omega (arith, c .if1 .taken))
 
-add-k : tie.Need-add-k Inv-loop μ-loop
-add-k c = search needs
-
-loop-less : tie.Need-loop-less Inv-loop μ-loop
-loop-less c = search needs
-
 loop-again : tie.Need-loop-again Inv-loop μ-loop
 loop-again c =
     let at-link-to = c .before .before .before in
@@ -86,17 +80,5 @@ pub links-forward-spec : {M : Type 1} → statement M
 links-forward-spec =
     tie.close
     (tie.spec
-    Inv-loop
-    μ-loop
-    loop-holds
-    link-from-requires
-    link-to-requires
-    mul-if1
-    shared-slice-read-if1
-    mul-if1-2
-    shared-slice-read-if1-2
-    returns
-    add-k
-    loop-less
-    loop-again
-    returns-2)
+    Inv-loop μ-loop loop-holds link-from-requires link-to-requires mul-if1 shared-slice-read-if1 mul-if1-2 shared-slice-read-if1-2 returns
+    (search needs) (search needs) loop-again returns-2)

@@ -6,34 +6,10 @@ use Rattle.acceptance.proofs.Ordering.{linking, not-once, ordered}
 use Rattle.acceptance.proofs.order.order_forward.Statement.{statement}
 use Rattle.acceptance.proofs.order.order_forward.Tie as tie
 
-place-room-requires : tie.Need-place-room-requires
-place-room-requires c κs = search needs
-
-add-end : tie.Need-add-end
-add-end c = search needs
-
-sub-each-once : tie.Need-sub-each-once
-sub-each-once c = search needs
-
-part-each-once-start : tie.Need-part-each-once-start
-part-each-once-start c = search needs
-
-part-each-once-end : tie.Need-part-each-once-end
-part-each-once-end c = search needs
-
-slice-aggregate-each-once : tie.Need-slice-aggregate-each-once
-slice-aggregate-each-once c = search needs
-
-each-once-requires : tie.Need-each-once-requires
-each-once-requires c κs = search needs
-
 returns : tie.Need-returns
 returns c =
     let start = c .before .before .before .before .before .before .before .before in
     not-once (start .pre) (c .before .before .each-once .ensures .0) (c .if1 .taken)
-
-slice-aggregate-links-forward : tie.Need-slice-aggregate-links-forward
-slice-aggregate-links-forward c = search needs
 
 links-forward-requires : tie.Need-links-forward-requires
 links-forward-requires c κs =
@@ -52,14 +28,5 @@ pub order-forward-spec : {M : Type 1} → statement M
 order-forward-spec =
     tie.close
     (tie.spec
-    place-room-requires
-    add-end
-    sub-each-once
-    part-each-once-start
-    part-each-once-end
-    slice-aggregate-each-once
-    each-once-requires
-    returns
-    slice-aggregate-links-forward
-    links-forward-requires
-    returns-2)
+    (λ c κs. search needs) (search needs) (search needs) (search needs) (search needs) (search needs) (λ c κs. search needs) returns
+    (search needs) links-forward-requires returns-2)

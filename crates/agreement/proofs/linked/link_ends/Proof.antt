@@ -21,9 +21,6 @@ Inv-loop b n l froms₀ tos₀ k₀ froms tos k =
 abbrev μ-loop : tie.MeasureT-loop
 μ-loop b n l froms₀ tos₀ k₀ froms tos k = l - k
 
-loop-holds : tie.Need-loop-holds Inv-loop μ-loop
-loop-holds c = search needs
-
 link-from-requires : tie.Need-link-from-requires Inv-loop μ-loop
 link-from-requires c κs =
     let start = c .before .before .before .before .before in
@@ -32,12 +29,6 @@ link-from-requires c κs =
 cast-froms : tie.Need-cast-froms Inv-loop μ-loop
 cast-froms c = omega (arith, c .link-from .ensures, c .before .before .before .before .before .before .pre .0 .from (c .before .before .loop .k) (c .before .loop-test .taken), c .before .before .before .before .before .before .pre .0 .few-nodes)
 
-mul-froms : tie.Need-mul-froms Inv-loop μ-loop
-mul-froms c = search needs
-
-slice-write-froms : tie.Need-slice-write-froms Inv-loop μ-loop
-slice-write-froms c = search needs
-
 link-to-requires : tie.Need-link-to-requires Inv-loop μ-loop
 link-to-requires c κs =
     let start = c .before .before .before .before .before .before in
@@ -45,18 +36,6 @@ link-to-requires c κs =
 
 cast-tos : tie.Need-cast-tos Inv-loop μ-loop
 cast-tos c = omega (arith, c .link-to .ensures, c .before .before .before .before .before .before .before .pre .0 .to (c .before .before .before .loop .k) (c .before .before .loop-test .taken), c .before .before .before .before .before .before .before .pre .0 .few-nodes)
-
-mul-tos : tie.Need-mul-tos Inv-loop μ-loop
-mul-tos c = search needs
-
-slice-write-tos : tie.Need-slice-write-tos Inv-loop μ-loop
-slice-write-tos c = search needs
-
-add-k : tie.Need-add-k Inv-loop μ-loop
-add-k c = search needs
-
-loop-less : tie.Need-loop-less Inv-loop μ-loop
-loop-less c = search needs
 
 loop-again : tie.Need-loop-again Inv-loop μ-loop
 loop-again c =
@@ -69,12 +48,6 @@ loop-again c =
       table-next (linkTo (start .args .b .now)) (start .args .tos .now) (head .loop .k) (c .link-to .ensures) (head .loop .inv .4),
     )
 
-same-length : tie.Need-same-length Inv-loop μ-loop
-same-length c = search needs
-
-same-length-2 : tie.Need-same-length-2 Inv-loop μ-loop
-same-length-2 c = search needs
-
 returns : tie.Need-returns Inv-loop μ-loop
 returns c =
     let start = c .before .before .before .before .before in (
@@ -86,20 +59,5 @@ pub link-ends-spec : {M : Type 1} → statement M
 link-ends-spec =
     tie.close
     (tie.spec
-    Inv-loop
-    μ-loop
-    loop-holds
-    link-from-requires
-    cast-froms
-    mul-froms
-    slice-write-froms
-    link-to-requires
-    cast-tos
-    mul-tos
-    slice-write-tos
-    add-k
-    loop-less
-    loop-again
-    same-length
-    same-length-2
-    returns)
+    Inv-loop μ-loop (search needs) link-from-requires cast-froms (search needs) (search needs) link-to-requires cast-tos (search needs)
+    (search needs) (search needs) (search needs) loop-again (search needs) (search needs) returns)

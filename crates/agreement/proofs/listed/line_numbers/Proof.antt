@@ -20,63 +20,15 @@ Inv-loop area n l k lines₀ starts x₀ lines x =
 abbrev μ-loop : tie.MeasureT-loop
 μ-loop area n l k lines₀ starts x₀ lines x = k - x
 
-mul-starts : tie.Need-mul-starts Inv-loop μ-loop
-mul-starts c = search needs
-
-add-starts : tie.Need-add-starts Inv-loop μ-loop
-add-starts c = search needs
-
-mul-starts-2 : tie.Need-mul-starts-2 Inv-loop μ-loop
-mul-starts-2 c = search needs
-
-add-starts-2 : tie.Need-add-starts-2 Inv-loop μ-loop
-add-starts-2 c = search needs
-
 loop-holds : tie.Need-loop-holds Inv-loop μ-loop
 unfolding lineNumbers flatMap
 loop-holds c = (omega arith, refl, refl)
 
-add-wide : tie.Need-add-wide Inv-loop μ-loop
-add-wide c = search needs
-
-mul-wide : tie.Need-mul-wide Inv-loop μ-loop
-mul-wide c = search needs
-
-shared-slice-read-wide : tie.Need-shared-slice-read-wide Inv-loop μ-loop
-shared-slice-read-wide c = search needs
-
-wide-requires : tie.Need-wide-requires Inv-loop μ-loop
-wide-requires c κs = search needs
-
-add-wide-2 : tie.Need-add-wide-2 Inv-loop μ-loop
-add-wide-2 c = search needs
-
-add-wide-3 : tie.Need-add-wide-3 Inv-loop μ-loop
-add-wide-3 c = search needs
-
-mul-wide-2 : tie.Need-mul-wide-2 Inv-loop μ-loop
-mul-wide-2 c = search needs
-
-shared-slice-read-wide-2 : tie.Need-shared-slice-read-wide-2 Inv-loop μ-loop
-shared-slice-read-wide-2 c = search needs
-
-wide-requires-2 : tie.Need-wide-requires-2 Inv-loop μ-loop
-wide-requires-2 c κs = search needs
-
 sub-fill : tie.Need-sub-fill Inv-loop μ-loop
 sub-fill c = omega (arith, rises (c .before .before .before .before .before .before .before .before .before .pre .0) (c .before .before .before .before .before .loop-test .taken) (c .before .before .before .wide .ensures) (c .before .wide2 .ensures))
 
-cast-fill : tie.Need-cast-fill Inv-loop μ-loop
-cast-fill c = search needs
-
 fill-requires : tie.Need-fill-requires Inv-loop μ-loop
 fill-requires c κs = omega (arith, rises (c .before .before .before .before .before .before .before .before .before .pre .0) (c .before .before .before .before .before .loop-test .taken) (c .before .before .before .wide .ensures) (c .before .wide2 .ensures), ends (c .before .before .before .before .before .before .before .before .before .pre .0) (c .before .before .before .before .before .loop-test .taken) (c .before .before .before .wide .ensures) (c .before .wide2 .ensures), c .before .before .before .before .before .before .before .before .before .pre .1, c .before .before .before .before .before .before .loop .inv .1)
-
-add-x : tie.Need-add-x Inv-loop μ-loop
-add-x c = search needs
-
-loop-less : tie.Need-loop-less Inv-loop μ-loop
-loop-less c = search needs
 
 loop-again : tie.Need-loop-again Inv-loop μ-loop
 loop-again c =
@@ -90,9 +42,6 @@ loop-again c =
       numbers-next (start .pre .0) (turn .loop-test .taken) (at-wide .wide .ensures) (at-wide2 .wide2 .ensures) (start .args .lines .now) (head .loop .inv .2) (c .before .before .fill .ensures),
     )
 
-same-length : tie.Need-same-length Inv-loop μ-loop
-same-length c = search needs
-
 returns : tie.Need-returns Inv-loop μ-loop
 returns c =
     let start = c .before .before .before .before in
@@ -102,27 +51,6 @@ pub line-numbers-spec : {M : Type 1} → statement M
 line-numbers-spec =
     tie.close
     (tie.spec
-    Inv-loop
-    μ-loop
-    mul-starts
-    add-starts
-    mul-starts-2
-    add-starts-2
-    loop-holds
-    add-wide
-    mul-wide
-    shared-slice-read-wide
-    wide-requires
-    add-wide-2
-    add-wide-3
-    mul-wide-2
-    shared-slice-read-wide-2
-    wide-requires-2
-    sub-fill
-    cast-fill
-    fill-requires
-    add-x
-    loop-less
-    loop-again
-    same-length
-    returns)
+    Inv-loop μ-loop (search needs) (search needs) (search needs) (search needs) loop-holds (search needs) (search needs) (search needs)
+    (λ c κs. search needs) (search needs) (search needs) (search needs) (search needs) (λ c κs. search needs) sub-fill (search needs)
+    fill-requires (search needs) (search needs) loop-again (search needs) returns)

@@ -17,39 +17,12 @@ Inv-loop room₀ at words i₀ room i =
 abbrev μ-loop : tie.MeasureT-loop
 μ-loop room₀ at words i₀ room i = length words - i
 
-loop-holds : tie.Need-loop-holds Inv-loop μ-loop
-loop-holds c = search needs
-
-mul-room : tie.Need-mul-room Inv-loop μ-loop
-mul-room c = search needs
-
-shared-slice-read-room : tie.Need-shared-slice-read-room Inv-loop μ-loop
-shared-slice-read-room c = search needs
-
-add-room : tie.Need-add-room Inv-loop μ-loop
-add-room c = search needs
-
-mul-room-2 : tie.Need-mul-room-2 Inv-loop μ-loop
-mul-room-2 c = search needs
-
-slice-write-room : tie.Need-slice-write-room Inv-loop μ-loop
-slice-write-room c = search needs
-
-add-i : tie.Need-add-i Inv-loop μ-loop
-add-i c = search needs
-
-loop-less : tie.Need-loop-less Inv-loop μ-loop
-loop-less c = search needs
-
 loop-again : tie.Need-loop-again Inv-loop μ-loop
 loop-again c = (
   omega (arith, c .before .loop-test .taken),
   length-set (c .before .before .loop .room) (c .before .before .before .args .at + c .before .before .loop .i) _ ∙ c .before .before .loop .inv .1,
   put-next (c .before .before .before .args .room .now) (c .before .before .before .args .words .now) (c .before .before .before .args .at) (c .before .loop-test .taken) (c .before .before .loop .inv .2),
 )
-
-same-length : tie.Need-same-length Inv-loop μ-loop
-same-length c = search needs
 
 returns : tie.Need-returns Inv-loop μ-loop
 returns c = all-put (c .before .before .args .room .now) (c .before .before .args .words .now) (c .before .before .args .at) (c .loop-test .left) (c .before .loop .inv .2)
@@ -58,16 +31,5 @@ pub put-in-spec : {M : Type 1} → statement M
 put-in-spec =
     tie.close
     (tie.spec
-    Inv-loop
-    μ-loop
-    loop-holds
-    mul-room
-    shared-slice-read-room
-    add-room
-    mul-room-2
-    slice-write-room
-    add-i
-    loop-less
-    loop-again
-    same-length
-    returns)
+    Inv-loop μ-loop (search needs) (search needs) (search needs) (search needs) (search needs) (search needs) (search needs) (search needs)
+    loop-again (search needs) returns)

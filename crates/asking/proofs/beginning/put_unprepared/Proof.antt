@@ -11,27 +11,9 @@ use borrow.Author.Needs.{needs}
 use Rattle.asking.proofs.beginning.put_unprepared.Statement.{statement}
 use Rattle.asking.proofs.beginning.put_unprepared.Tie as tie
 
-enum-known-answer : tie.Need-enum-known-answer
-enum-known-answer c = search needs
-
-enum-told : tie.Need-enum-told
-enum-told c = search needs
-
 returns : tie.Need-returns
 unfolding refusedLine
 returns c = put-as (ap (λ (a : Prepared). refusedLine (preparedSaid a)) (c .enum-told .given .1)) (record { stands = refl; ends = refl })
-
-number-requires : tie.Need-number-requires
-number-requires c κs = search needs
-
-place-requires : tie.Need-place-requires
-place-requires c κs = search needs
-
-put-refused-line-requires : tie.Need-put-refused-line-requires
-put-refused-line-requires c κs = search needs
-
-same-length : tie.Need-same-length
-same-length c = search needs
 
 returns-2 : tie.Need-returns-2
 unfolding refusedLine
@@ -49,11 +31,4 @@ pub put-unprepared-spec : {M : Type 1} → statement M
 put-unprepared-spec =
     tie.close
     (tie.spec
-    enum-known-answer
-    enum-told
-    returns
-    number-requires
-    place-requires
-    put-refused-line-requires
-    same-length
-    returns-2)
+    (search needs) (search needs) returns (λ c κs. search needs) (λ c κs. search needs) (λ c κs. search needs) (search needs) returns-2)

@@ -8,26 +8,11 @@ use borrow.Author.Needs.{needs}
 use Rattle.asking.proofs.checks.put_answers.Statement.{statement}
 use Rattle.asking.proofs.checks.put_answers.Tie as tie
 
-slice-aggregate-put-text : tie.Need-slice-aggregate-put-text
-slice-aggregate-put-text c = search needs
-
-put-text-requires : tie.Need-put-text-requires
-put-text-requires c κs = search needs
-
-put-line-answer-requires : tie.Need-put-line-answer-requires
-put-line-answer-requires c κs = search needs
-
-slice-aggregate-put-text-2 : tie.Need-slice-aggregate-put-text-2
-slice-aggregate-put-text-2 c = search needs
-
 put-text-requires-2 : tie.Need-put-text-requires-2
 put-text-requires-2 c κs = omega (arith, line-short (lineSaid (c .before .before .before .before .before .before .before .before .before .before .before .before .args .line)))
 
 put-order-answer-requires : tie.Need-put-order-answer-requires
 put-order-answer-requires c κs = omega (arith, line-short (lineSaid (c .before .before .before .before .before .before .before .before .before .before .before .before .before .before .before .before .args .line)))
-
-same-length : tie.Need-same-length
-same-length c = search needs
 
 returns : tie.Need-returns
 unfolding bothChecks
@@ -43,11 +28,5 @@ pub put-answers-spec : {M : Type 1} → statement M
 put-answers-spec =
     tie.close
     (tie.spec
-    slice-aggregate-put-text
-    put-text-requires
-    put-line-answer-requires
-    slice-aggregate-put-text-2
-    put-text-requires-2
-    put-order-answer-requires
-    same-length
+    (search needs) (λ c κs. search needs) (λ c κs. search needs) (search needs) put-text-requires-2 put-order-answer-requires (search needs)
     returns)

@@ -9,44 +9,11 @@ use borrow.Author.Needs.{needs}
 use Rattle.asking.proofs.checks.put_line_answer.Statement.{statement}
 use Rattle.asking.proofs.checks.put_line_answer.Tie as tie
 
-enum-known-answer : tie.Need-enum-known-answer
-enum-known-answer c = search needs
-
-put-checked-requires : tie.Need-put-checked-requires
-put-checked-requires c κs = search needs
-
-enum-known-answer-2 : tie.Need-enum-known-answer-2
-enum-known-answer-2 c = search needs
-
-put-checked-requires-2 : tie.Need-put-checked-requires-2
-put-checked-requires-2 c κs = search needs
-
-enum-known-answer-3 : tie.Need-enum-known-answer-3
-enum-known-answer-3 c = search needs
-
-number-requires : tie.Need-number-requires
-number-requires c κs = search needs
-
-place-requires : tie.Need-place-requires
-place-requires c κs = search needs
-
-put-refused-requires : tie.Need-put-refused-requires
-put-refused-requires c κs = search needs
-
-same-length : tie.Need-same-length
-same-length c = search needs
-
 returns : tie.Need-returns
 returns c = put-as (ap (λ (a : LineAnswer). showLine (lineSaid a)) (c .before .before .before .before .before .answer .given .1)) (c .before .before .put-checked .ensures)
 
-same-length-2 : tie.Need-same-length-2
-same-length-2 c = search needs
-
 returns-2 : tie.Need-returns-2
 returns-2 c = put-as (ap (λ (a : LineAnswer). showLine (lineSaid a)) (c .before .before .before .before .before .answer2 .given .1)) (c .before .before .put-checked2 .ensures)
-
-same-length-3 : tie.Need-same-length-3
-same-length-3 c = search needs
 
 returns-3 : tie.Need-returns-3
 unfolding showLine
@@ -62,17 +29,5 @@ pub put-line-answer-spec : {M : Type 1} → statement M
 put-line-answer-spec =
     tie.close
     (tie.spec
-    enum-known-answer
-    put-checked-requires
-    enum-known-answer-2
-    put-checked-requires-2
-    enum-known-answer-3
-    number-requires
-    place-requires
-    put-refused-requires
-    same-length
-    returns
-    same-length-2
-    returns-2
-    same-length-3
-    returns-3)
+    (search needs) (λ c κs. search needs) (search needs) (λ c κs. search needs) (search needs) (λ c κs. search needs) (λ c κs. search needs)
+    (λ c κs. search needs) (search needs) returns (search needs) returns-2 (search needs) returns-3)

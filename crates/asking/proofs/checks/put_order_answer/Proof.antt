@@ -9,46 +9,13 @@ use borrow.Author.Needs.{needs}
 use Rattle.asking.proofs.checks.put_order_answer.Statement.{statement}
 use Rattle.asking.proofs.checks.put_order_answer.Tie as tie
 
-enum-told : tie.Need-enum-told
-enum-told c = search needs
-
-put-reply-requires : tie.Need-put-reply-requires
-put-reply-requires c κs = search needs
-
-enum-told-2 : tie.Need-enum-told-2
-enum-told-2 c = search needs
-
-put-reply-requires-2 : tie.Need-put-reply-requires-2
-put-reply-requires-2 c κs = search needs
-
-enum-known-answer : tie.Need-enum-known-answer
-enum-known-answer c = search needs
-
-number-requires : tie.Need-number-requires
-number-requires c κs = search needs
-
-place-requires : tie.Need-place-requires
-place-requires c κs = search needs
-
-put-refused-requires : tie.Need-put-refused-requires
-put-refused-requires c κs = search needs
-
-same-length : tie.Need-same-length
-same-length c = search needs
-
 returns : tie.Need-returns
 unfolding showOrder
 returns c = put-as (ap (λ (a : TopoAnswer). showOrder (topoSaid a)) (c .before .before .before .before .enum-told .given .1)) (c .before .before .put-reply .ensures)
 
-same-length-2 : tie.Need-same-length-2
-same-length-2 c = search needs
-
 returns-2 : tie.Need-returns-2
 unfolding showOrder
 returns-2 c = put-as (ap (λ (a : TopoAnswer). showOrder (topoSaid a)) (c .before .before .before .before .enum-told2 .given .1)) (c .before .before .put-reply2 .ensures)
-
-same-length-3 : tie.Need-same-length-3
-same-length-3 c = search needs
 
 returns-3 : tie.Need-returns-3
 unfolding showOrder
@@ -64,17 +31,5 @@ pub put-order-answer-spec : {M : Type 1} → statement M
 put-order-answer-spec =
     tie.close
     (tie.spec
-    enum-told
-    put-reply-requires
-    enum-told-2
-    put-reply-requires-2
-    enum-known-answer
-    number-requires
-    place-requires
-    put-refused-requires
-    same-length
-    returns
-    same-length-2
-    returns-2
-    same-length-3
-    returns-3)
+    (search needs) (λ c κs. search needs) (search needs) (λ c κs. search needs) (search needs) (λ c κs. search needs) (λ c κs. search needs)
+    (λ c κs. search needs) (search needs) returns (search needs) returns-2 (search needs) returns-3)

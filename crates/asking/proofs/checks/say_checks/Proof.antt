@@ -8,21 +8,6 @@ use borrow.Author.Needs.{needs}
 use Rattle.asking.proofs.checks.say_checks.Statement.{statement}
 use Rattle.asking.proofs.checks.say_checks.Tie as tie
 
-is-node-convex-requires : tie.Need-is-node-convex-requires
-is-node-convex-requires c κs = search needs
-
-is-node-convex-requires-2 : tie.Need-is-node-convex-requires-2
-is-node-convex-requires-2 c κs = search needs
-
-put-answers-requires : tie.Need-put-answers-requires
-put-answers-requires c κs = search needs
-
-same-length : tie.Need-same-length
-same-length c = search needs
-
-same-length-2 : tie.Need-same-length-2
-same-length-2 c = search needs
-
 returns : tie.Need-returns
 returns c =
     let put = c .before .before in
@@ -38,9 +23,4 @@ pub say-checks-spec : {M : Type 1} → statement M
 say-checks-spec =
     tie.close
     (tie.spec
-    is-node-convex-requires
-    is-node-convex-requires-2
-    put-answers-requires
-    same-length
-    same-length-2
-    returns)
+    (λ c κs. search needs) (λ c κs. search needs) (λ c κs. search needs) (search needs) (search needs) returns)

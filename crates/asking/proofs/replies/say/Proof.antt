@@ -9,24 +9,6 @@ use borrow.Author.Needs.{needs}
 use Rattle.asking.proofs.replies.say.Statement.{statement}
 use Rattle.asking.proofs.replies.say.Tie as tie
 
-enum-told : tie.Need-enum-told
-enum-told c = search needs
-
-say-checks-requires : tie.Need-say-checks-requires
-say-checks-requires c κs = search needs
-
-enum-told-2 : tie.Need-enum-told-2
-enum-told-2 c = search needs
-
-say-path-requires : tie.Need-say-path-requires
-say-path-requires c κs = search needs
-
-same-length : tie.Need-same-length
-same-length c = search needs
-
-same-length-2 : tie.Need-same-length-2
-same-length-2 c = search needs
-
 returns : tie.Need-returns
 unfolding saysOf
 returns c =
@@ -36,12 +18,6 @@ returns c =
       printed-as (ap (λ (p : Program). saysOf p (given .map .now) (preparedArea (given .map .now)) (given .list .now)) (told .enum-told .given .1)) (said .say-checks .ensures .0),
       said .say-checks .ensures .1,
     )
-
-same-length-3 : tie.Need-same-length-3
-same-length-3 c = search needs
-
-same-length-4 : tie.Need-same-length-4
-same-length-4 c = search needs
 
 returns-2 : tie.Need-returns-2
 unfolding saysOf
@@ -57,13 +33,5 @@ pub say-spec : {M : Type 1} → statement M
 say-spec =
     tie.close
     (tie.spec
-    enum-told
-    say-checks-requires
-    enum-told-2
-    say-path-requires
-    same-length
-    same-length-2
-    returns
-    same-length-3
-    same-length-4
-    returns-2)
+    (search needs) (λ c κs. search needs) (search needs) (λ c κs. search needs) (search needs) (search needs) returns (search needs)
+    (search needs) returns-2)

@@ -11,9 +11,6 @@ use borrow.Author.Needs.{needs}
 use Rattle.asking.proofs.turns.next_list.Statement.{statement}
 use Rattle.asking.proofs.turns.next_list.Tie as tie
 
-line-end-requires : tie.Need-line-end-requires
-line-end-requires c κs = search needs
-
 sub-answer-text : tie.Need-sub-answer-text
 sub-answer-text c =
     let start = c .before .before .before .before .before .before .before in
@@ -64,15 +61,6 @@ add-t14 c =
       start .pre .1 .1 .1 .0,
     )
 
-same-length : tie.Need-same-length
-same-length c = search needs
-
-same-length-2 : tie.Need-same-length-2
-same-length-2 c = search needs
-
-same-length-3 : tie.Need-same-length-3
-same-length-3 c = search needs
-
 returns : tie.Need-returns
 returns c =
     let asked = c .before .before .before .before .before .before in
@@ -85,13 +73,5 @@ pub next-list-spec : {M : Type 1} → statement M
 next-list-spec =
     tie.close
     (tie.spec
-    line-end-requires
-    sub-answer-text
-    part-answer-text-start
-    part-answer-text-end
-    answer-text-requires
-    add-t14
-    same-length
-    same-length-2
-    same-length-3
-    returns)
+    (λ c κs. search needs) sub-answer-text part-answer-text-start part-answer-text-end answer-text-requires add-t14 (search needs)
+    (search needs) (search needs) returns)

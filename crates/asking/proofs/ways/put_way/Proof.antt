@@ -13,15 +13,6 @@ use borrow.Author.Needs.{needs}
 use Rattle.asking.proofs.ways.put_way.Statement.{statement}
 use Rattle.asking.proofs.ways.put_way.Tie as tie
 
-enum-known-answer : tie.Need-enum-known-answer
-enum-known-answer c = search needs
-
-sub-put-path : tie.Need-sub-put-path
-sub-put-path c = search needs
-
-part-put-path-start : tie.Need-part-put-path-start
-part-put-path-start c = search needs
-
 part-put-path-end : tie.Need-part-put-path-end
 part-put-path-end c =
     let told = c .before .before in
@@ -34,30 +25,6 @@ put-path-requires c κs =
     let start = told .before .before .before .before in
     omega (arith, start .pre .1, part-within (start .args .path .now) (told .answer .given .1))
 
-enum-told : tie.Need-enum-told
-enum-told c = search needs
-
-slice-aggregate-put-text : tie.Need-slice-aggregate-put-text
-slice-aggregate-put-text c = search needs
-
-put-text-requires : tie.Need-put-text-requires
-put-text-requires c κs = search needs
-
-enum-known-answer-2 : tie.Need-enum-known-answer-2
-enum-known-answer-2 c = search needs
-
-number-requires : tie.Need-number-requires
-number-requires c κs = search needs
-
-place-requires : tie.Need-place-requires
-place-requires c κs = search needs
-
-put-refused-requires : tie.Need-put-refused-requires
-put-refused-requires c κs = search needs
-
-same-length : tie.Need-same-length
-same-length c = search needs
-
 returns : tie.Need-returns
 returns c =
     let put = c .before .before in
@@ -66,9 +33,6 @@ returns c =
       put-as (ap showWay (part-is (start .args .path .now) (told .answer .given .1))) (put .put-path .ensures .0),
       omega (arith, put .put-path .ensures .1, start .pre .1, part-within (start .args .path .now) (told .answer .given .1)),
     )
-
-same-length-2 : tie.Need-same-length-2
-same-length-2 c = search needs
 
 returns-2 : tie.Need-returns-2
 unfolding showWay
@@ -79,9 +43,6 @@ returns-2 c =
       put-as (ap (λ (a : PathAnswer). showWay (wayIn (pathSaid a) words)) (told .enum-told .given .1)) (put .put-text .ensures),
       search needs,
     )
-
-same-length-3 : tie.Need-same-length-3
-same-length-3 c = search needs
 
 returns-3 : tie.Need-returns-3
 unfolding showWay
@@ -102,21 +63,6 @@ pub put-way-spec : {M : Type 1} → statement M
 put-way-spec =
     tie.close
     (tie.spec
-    enum-known-answer
-    sub-put-path
-    part-put-path-start
-    part-put-path-end
-    put-path-requires
-    enum-told
-    slice-aggregate-put-text
-    put-text-requires
-    enum-known-answer-2
-    number-requires
-    place-requires
-    put-refused-requires
-    same-length
-    returns
-    same-length-2
-    returns-2
-    same-length-3
-    returns-3)
+    (search needs) (search needs) (search needs) part-put-path-end put-path-requires (search needs) (search needs) (λ c κs. search needs)
+    (search needs) (λ c κs. search needs) (λ c κs. search needs) (λ c κs. search needs) (search needs) returns (search needs) returns-2
+    (search needs) returns-3)

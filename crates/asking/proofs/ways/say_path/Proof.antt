@@ -6,18 +6,6 @@ use borrow.Author.Needs.{needs}
 use Rattle.asking.proofs.ways.say_path.Statement.{statement}
 use Rattle.asking.proofs.ways.say_path.Tie as tie
 
-path-room-requires : tie.Need-path-room-requires
-path-room-requires c κs = search needs
-
-slice-aggregate-show-path : tie.Need-slice-aggregate-show-path
-slice-aggregate-show-path c = search needs
-
-show-path-requires : tie.Need-show-path-requires
-show-path-requires c κs = search needs
-
-slice-aggregate-put-way : tie.Need-slice-aggregate-put-way
-slice-aggregate-put-way c = search needs
-
 put-way-requires : tie.Need-put-way-requires
 put-way-requires c κs =
     let shown = c .before .before .before .before .before in
@@ -25,12 +13,6 @@ put-way-requires c κs =
     let start = made .before .before .before .before .before in
     let few = steps-within (start .pre .0) (start .args .list .now) (made .path-room .result) (made .path-room .ensures) (shown .show-path .ensures .0) in
     (omega (arith, few, made .path-room .ensures), (search needs, search needs))
-
-same-length : tie.Need-same-length
-same-length c = search needs
-
-same-length-2 : tie.Need-same-length-2
-same-length-2 c = search needs
 
 returns : tie.Need-returns
 returns c =
@@ -46,11 +28,4 @@ pub say-path-spec : {M : Type 1} → statement M
 say-path-spec =
     tie.close
     (tie.spec
-    path-room-requires
-    slice-aggregate-show-path
-    show-path-requires
-    slice-aggregate-put-way
-    put-way-requires
-    same-length
-    same-length-2
-    returns)
+    (λ c κs. search needs) (search needs) (λ c κs. search needs) (search needs) put-way-requires (search needs) (search needs) returns)

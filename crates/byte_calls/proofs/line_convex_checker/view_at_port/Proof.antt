@@ -6,15 +6,6 @@ use Rattle.byte_calls.proofs.ViewCalls.{opened, view-refused, view-unkn
 use Rattle.byte_calls.proofs.line_convex_checker.view_at_port.Statement.{statement}
 use Rattle.byte_calls.proofs.line_convex_checker.view_at_port.Tie as tie
 
-open-shared-requires : tie.Need-open-shared-requires
-open-shared-requires c κs = search needs
-
-enum-known-opened : tie.Need-enum-known-opened
-enum-known-opened c = search needs
-
-enum-told : tie.Need-enum-told
-enum-told c = search needs
-
 refusal-requires : tie.Need-refusal-requires
 refusal-requires c κs =
     is-refusal (c .before .before .open-shared .result) (c .before .match .keys2)
@@ -63,12 +54,5 @@ pub view-at-port-spec : {M : Type 1} → statement M
 view-at-port-spec =
     tie.close
     (tie.spec
-    open-shared-requires
-    enum-known-opened
-    enum-told
-    refusal-requires
-    returns
-    returns-2
-    view-start-requires
-    line-count-requires
+    (λ c κs. search needs) (search needs) (search needs) refusal-requires returns returns-2 view-start-requires line-count-requires
     returns-3)

@@ -6,29 +6,14 @@ use borrow.Author.Needs.{needs}
 use Rattle.convex.proofs.line_convex_checker.lines_at_port.Statement.{statement}
 use Rattle.convex.proofs.line_convex_checker.lines_at_port.Tie as tie
 
-open-requires : tie.Need-open-requires
-open-requires c κs = search needs
-
-enum-known-opened : tie.Need-enum-known-opened
-enum-known-opened c = search needs
-
-enum-told : tie.Need-enum-told
-enum-told c = search needs
-
 refusal-requires : tie.Need-refusal-requires
 refusal-requires c κs =
     is-refusal (c .before .before .before .before .open .result) (c .before .match .keys2)
-
-same-length : tie.Need-same-length
-same-length c = search needs
 
 returns : tie.Need-returns
 returns c =
     let opened = c .before .before .before .before .before in
     port-refused (opened .open .ensures) (is-refusal (opened .open .result) (c .before .before .match .keys2)) (c .refusal .result) (c .refusal .ensures) _
-
-same-length-2 : tie.Need-same-length-2
-same-length-2 c = search needs
 
 returns-2 : tie.Need-returns-2
 returns-2 c =
@@ -50,9 +35,6 @@ line-count-requires c κs =
     let ready = usable-before (opened .open .ensures) (told .before .opened .given .1) in
     record { read = ready .read; links = ready .links; known = search needs }
 
-same-length-3 : tie.Need-same-length-3
-same-length-3 c = search needs
-
 returns-3 : tie.Need-returns-3
 returns-3 c =
     let told = c .before .before .before in
@@ -63,15 +45,5 @@ pub lines-at-port-spec : {M : Type 1} → statement M
 lines-at-port-spec =
     tie.close
     (tie.spec
-    open-requires
-    enum-known-opened
-    enum-told
-    refusal-requires
-    same-length
-    returns
-    same-length-2
-    returns-2
-    first-line-requires
-    line-count-requires
-    same-length-3
-    returns-3)
+    (λ c κs. search needs) (search needs) (search needs) refusal-requires (search needs) returns (search needs) returns-2
+    first-line-requires line-count-requires (search needs) returns-3)

@@ -9,24 +9,6 @@ use borrow.Author.Needs.{needs}
 use Rattle.convex.proofs.line_convex_checker.view_lines_at_port.Statement.{statement}
 use Rattle.convex.proofs.line_convex_checker.view_lines_at_port.Tie as tie
 
-open-shared-requires : tie.Need-open-shared-requires
-open-shared-requires c κs = search needs
-
-enum-known-opened : tie.Need-enum-known-opened
-enum-known-opened c = search needs
-
-enum-told : tie.Need-enum-told
-enum-told c = search needs
-
-sub-result : tie.Need-sub-result
-sub-result c = search needs
-
-part-result-start : tie.Need-part-result-start
-part-result-start c = search needs
-
-part-result-end : tie.Need-part-result-end
-part-result-end c = search needs
-
 returns : tie.Need-returns
 returns c =
     let opened = c .before .before .before in
@@ -39,15 +21,6 @@ returns c =
     let words = view-words (start .args .map .now) (start .args .area .now) (start .args .port) is in
     let place = view-place (start .args .map .now) (start .args .area .now) (start .args .port) is in
     (words, (refl, omega (arith, place)))
-
-sub-result-2 : tie.Need-sub-result-2
-sub-result-2 c = search needs
-
-part-result-start-2 : tie.Need-part-result-start-2
-part-result-start-2 c = search needs
-
-part-result-end-2 : tie.Need-part-result-end-2
-part-result-end-2 c = search needs
 
 returns-2 : tie.Need-returns-2
 returns-2 c =
@@ -88,16 +61,5 @@ pub view-lines-at-port-spec : {M : Type 1} → statement M
 view-lines-at-port-spec =
     tie.close
     (tie.spec
-    open-shared-requires
-    enum-known-opened
-    enum-told
-    sub-result
-    part-result-start
-    part-result-end
-    returns
-    sub-result-2
-    part-result-start-2
-    part-result-end-2
-    returns-2
-    lines-at-port-requires
-    returns-3)
+    (λ c κs. search needs) (search needs) (search needs) (search needs) (search needs) (search needs) returns (search needs) (search needs)
+    (search needs) returns-2 lines-at-port-requires returns-3)

@@ -14,23 +14,8 @@ returns c =
     let start = c .before .before .before .before in
     node-unknown (start .pre) (start .args .node) (start .args .records .now) (start .args .count) (c .if1 .taken)
 
-check-records-requires : tie.Need-check-records-requires
-check-records-requires c κs = search needs
-
-enum-told : tie.Need-enum-told
-enum-told c = search needs
-
-enum-told-2 : tie.Need-enum-told-2
-enum-told-2 c = search needs
-
 record-refusal-requires : tie.Need-record-refusal-requires
 record-refusal-requires c κs = is-bad (c .enum-told2 .given .1)
-
-same-length : tie.Need-same-length
-same-length c = search needs
-
-same-length-2 : tie.Need-same-length-2
-same-length-2 c = search needs
 
 returns-2 : tie.Need-returns-2
 returns-2 c =
@@ -54,12 +39,6 @@ write-extended-requires c κs =
       ),
     )
 
-same-length-3 : tie.Need-same-length-3
-same-length-3 c = search needs
-
-same-length-4 : tie.Need-same-length-4
-same-length-4 c = search needs
-
 returns-3 : tie.Need-returns-3
 returns-3 c =
     let written = c .before .before in
@@ -73,15 +52,5 @@ pub extend-records-spec : {M : Type 1} → statement M
 extend-records-spec =
     tie.close
     (tie.spec
-    returns
-    check-records-requires
-    enum-told
-    enum-told-2
-    record-refusal-requires
-    same-length
-    same-length-2
-    returns-2
-    write-extended-requires
-    same-length-3
-    same-length-4
-    returns-3)
+    returns (λ c κs. search needs) (search needs) (search needs) record-refusal-requires (search needs) (search needs) returns-2
+    write-extended-requires (search needs) (search needs) returns-3)

@@ -6,12 +6,6 @@ use borrow.Author.Needs.{needs}
 use Rattle.line_checker.proofs.extend.write_extended.Statement.{statement}
 use Rattle.line_checker.proofs.extend.write_extended.Tie as tie
 
-record-room-requires : tie.Need-record-room-requires
-record-room-requires c κs = search needs
-
-slice-aggregate-extend : tie.Need-slice-aggregate-extend
-slice-aggregate-extend c = search needs
-
 extend-requires : tie.Need-extend-requires
 extend-requires c κs =
     let start = c .before .before .before .before .before .before in
@@ -26,23 +20,11 @@ extend-requires c κs =
       ),
     )
 
-enum-known-found : tie.Need-enum-known-found
-enum-known-found c = search needs
-
-enum-told : tie.Need-enum-told
-enum-told c = search needs
-
-same-length : tie.Need-same-length
-same-length c = search needs
-
 returns : tie.Need-returns
 returns c =
     let found = c .before .before .before in
     let start = found .before .before .before .before .before .before .before in
     not-into (start .args .n) (start .args .l) (start .args .p) (found .extend .ensures) (c .enum-told .given .1)
-
-same-length-2 : tie.Need-same-length-2
-same-length-2 c = search needs
 
 returns-2 : tie.Need-returns-2
 returns-2 c =
@@ -51,21 +33,12 @@ returns-2 c =
     let start = found .before .before .before .before .before .before .before in
     extended-long (start .args .n) (start .args .l) (start .args .p) (found .extend .ensures) (made .before .found .given .1) (c .if1 .taken)
 
-slice-aggregate-copy-out : tie.Need-slice-aggregate-copy-out
-slice-aggregate-copy-out c = search needs
-
-mul-copy-out : tie.Need-mul-copy-out
-mul-copy-out c = search needs
-
 copy-out-requires : tie.Need-copy-out-requires
 copy-out-requires c κs =
     let made = c .before .before .before in
     let found = made .before .before .before .before in
     let start = found .before .before .before .before .before .before .before in
     (extended-inside (start .args .n) (start .args .l) (start .args .p) (found .extend .ensures) (made .before .found .given .1), search needs)
-
-same-length-3 : tie.Need-same-length-3
-same-length-3 c = search needs
 
 returns-3 : tie.Need-returns-3
 returns-3 c =
@@ -80,17 +53,5 @@ pub write-extended-spec : {M : Type 1} → statement M
 write-extended-spec =
     tie.close
     (tie.spec
-    record-room-requires
-    slice-aggregate-extend
-    extend-requires
-    enum-known-found
-    enum-told
-    same-length
-    returns
-    same-length-2
-    returns-2
-    slice-aggregate-copy-out
-    mul-copy-out
-    copy-out-requires
-    same-length-3
-    returns-3)
+    (λ c κs. search needs) (search needs) extend-requires (search needs) (search needs) (search needs) returns (search needs) returns-2
+    (search needs) (search needs) copy-out-requires (search needs) returns-3)

@@ -13,20 +13,8 @@ returns c =
     let start = c .before .before .before .before in
     no-records (start .args .n) (start .args .l) (start .args .p) _ _ (c .if1 .taken)
 
-check-records-requires : tie.Need-check-records-requires
-check-records-requires c κs = search needs
-
-enum-told : tie.Need-enum-told
-enum-told c = search needs
-
-enum-told-2 : tie.Need-enum-told-2
-enum-told-2 c = search needs
-
 record-refusal-requires : tie.Need-record-refusal-requires
 record-refusal-requires c κs = is-bad (c .enum-told2 .given .1)
-
-same-length : tie.Need-same-length
-same-length c = search needs
 
 returns-2 : tie.Need-returns-2
 returns-2 c =
@@ -45,12 +33,6 @@ walk-requires c κs =
       recorded-still (start .pre) (tested .check-records .ensures) (ap checkedSaid (told .enum-told .given .1)),
     )
 
-walk-answer-requires : tie.Need-walk-answer-requires
-walk-answer-requires c κs = search needs
-
-same-length-2 : tie.Need-same-length-2
-same-length-2 c = search needs
-
 returns-3 : tie.Need-returns-3
 returns-3 c =
     let walked = c .before .before .before in
@@ -65,14 +47,5 @@ pub check-by-records-spec : {M : Type 1} → statement M
 check-by-records-spec =
     tie.close
     (tie.spec
-    returns
-    check-records-requires
-    enum-told
-    enum-told-2
-    record-refusal-requires
-    same-length
-    returns-2
-    walk-requires
-    walk-answer-requires
-    same-length-2
-    returns-3)
+    returns (λ c κs. search needs) (search needs) (search needs) record-refusal-requires (search needs) returns-2 walk-requires
+    (λ c κs. search needs) (search needs) returns-3)

@@ -13,12 +13,6 @@ use Rattle.line_checker.proofs.line_check.walk_answer.Tie as tie
 same : {o p : Walked} → o ≡ p → _≡_ {A = Answer (Reply × ℕ)} (answered (walkedSaid p)) (answered (walkedSaid o))
 same e = ap (λ (w : Walked). answered (walkedSaid w)) (sym e)
 
-enum-known-walked : tie.Need-enum-known-walked
-enum-known-walked c = search needs
-
-enum-known-walked-2 : tie.Need-enum-known-walked-2
-enum-known-walked-2 c = search needs
-
 returns : tie.Need-returns
 returns c = same (c .before .walked .given .1)
 
@@ -26,4 +20,5 @@ returns-2 : tie.Need-returns-2
 returns-2 c = same (c .before .walked2 .given .1)
 
 pub walk-answer-spec : {M : Type 1} → statement M
-walk-answer-spec = tie.close (tie.spec enum-known-walked enum-known-walked-2 returns returns-2)
+walk-answer-spec = tie.close (tie.spec
+    (search needs) (search needs) returns returns-2)

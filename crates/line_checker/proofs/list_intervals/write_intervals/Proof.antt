@@ -6,34 +6,16 @@ use borrow.Author.Needs.{needs}
 use Rattle.line_checker.proofs.list_intervals.write_intervals.Statement.{statement}
 use Rattle.line_checker.proofs.list_intervals.write_intervals.Tie as tie
 
-record-room-requires : tie.Need-record-room-requires
-record-room-requires c κs = search needs
-
-slice-aggregate-get-intervals : tie.Need-slice-aggregate-get-intervals
-slice-aggregate-get-intervals c = search needs
-
 get-intervals-requires : tie.Need-get-intervals-requires
 get-intervals-requires c κs =
     let start = c .before .before .before .before .before .before in
     let usable = start .pre .0 in
     (usable, (start .pre .1, omega (arith, c .before .before .record-room .ensures, usable .read .few-nodes, usable .read .few-links)))
 
-enum-known-found : tie.Need-enum-known-found
-enum-known-found c = search needs
-
-enum-told : tie.Need-enum-told
-enum-told c = search needs
-
-same-length : tie.Need-same-length
-same-length c = search needs
-
 returns : tie.Need-returns
 returns c =
     let found = c .before .before .before .before .before in
     gap-into (found .get-intervals .ensures) (found .before .before .before .before .before .before .before .args .buffer .now) (c .enum-told .given .1)
-
-same-length-2 : tie.Need-same-length-2
-same-length-2 c = search needs
 
 returns-2 : tie.Need-returns-2
 returns-2 c =
@@ -42,23 +24,11 @@ returns-2 c =
     records-long (found .get-intervals .ensures) (found .before .before .before .before .before .before .before .args .buffer .now) (made .before .found .given .1)
     (c .if1 .taken)
 
-slice-aggregate-copy-out : tie.Need-slice-aggregate-copy-out
-slice-aggregate-copy-out c = search needs
-
-mul-copy-out : tie.Need-mul-copy-out
-mul-copy-out c = search needs
-
 copy-out-requires : tie.Need-copy-out-requires
 copy-out-requires c κs =
     let made = c .before .before .before in
     let found = made .before .before .before .before .before .before in
     (records-inside (found .get-intervals .ensures) (found .before .before .before .before .before .before .before .args .buffer .now) (made .before .found .given .1), search needs)
-
-same-length-3 : tie.Need-same-length-3
-same-length-3 c = search needs
-
-same-length-4 : tie.Need-same-length-4
-same-length-4 c = search needs
 
 returns-3 : tie.Need-returns-3
 returns-3 c =
@@ -72,18 +42,5 @@ pub write-intervals-spec : {M : Type 1} → statement M
 write-intervals-spec =
     tie.close
     (tie.spec
-    record-room-requires
-    slice-aggregate-get-intervals
-    get-intervals-requires
-    enum-known-found
-    enum-told
-    same-length
-    returns
-    same-length-2
-    returns-2
-    slice-aggregate-copy-out
-    mul-copy-out
-    copy-out-requires
-    same-length-3
-    same-length-4
-    returns-3)
+    (λ c κs. search needs) (search needs) get-intervals-requires (search needs) (search needs) (search needs) returns (search needs)
+    returns-2 (search needs) (search needs) copy-out-requires (search needs) (search needs) returns-3)

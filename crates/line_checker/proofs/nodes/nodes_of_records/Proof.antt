@@ -14,20 +14,8 @@ use borrow.Author.Needs.{needs}
 use Rattle.line_checker.proofs.nodes.nodes_of_records.Statement.{statement}
 use Rattle.line_checker.proofs.nodes.nodes_of_records.Tie as tie
 
-check-records-requires : tie.Need-check-records-requires
-check-records-requires c κs = search needs
-
-enum-told : tie.Need-enum-told
-enum-told c = search needs
-
-enum-told-2 : tie.Need-enum-told-2
-enum-told-2 c = search needs
-
 record-refusal-requires : tie.Need-record-refusal-requires
 record-refusal-requires c κs = is-bad (c .enum-told2 .given .1)
-
-same-length : tie.Need-same-length
-same-length c = search needs
 
 returns : tie.Need-returns
 returns c =
@@ -50,12 +38,6 @@ write-nodes-requires c κs =
       (recorded-still (start .pre) (tested .check-records .ensures) good, slotted-still (start .pre) (tested .check-records .ensures) good),
     )
 
-same-length-2 : tie.Need-same-length-2
-same-length-2 c = search needs
-
-same-length-3 : tie.Need-same-length-3
-same-length-3 c = search needs
-
 returns-2 : tie.Need-returns-2
 returns-2 c =
     let written = c .before .before in
@@ -68,13 +50,5 @@ pub nodes-of-records-spec : {M : Type 1} → statement M
 nodes-of-records-spec =
     tie.close
     (tie.spec
-    check-records-requires
-    enum-told
-    enum-told-2
-    record-refusal-requires
-    same-length
-    returns
-    write-nodes-requires
-    same-length-2
-    same-length-3
-    returns-2)
+    (λ c κs. search needs) (search needs) (search needs) record-refusal-requires (search needs) returns write-nodes-requires (search needs)
+    (search needs) returns-2)

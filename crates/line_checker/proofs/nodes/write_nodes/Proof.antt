@@ -5,30 +5,15 @@ use borrow.Author.Needs.{needs}
 use Rattle.line_checker.proofs.nodes.write_nodes.Statement.{statement}
 use Rattle.line_checker.proofs.nodes.write_nodes.Tie as tie
 
-node-room-requires : tie.Need-node-room-requires
-node-room-requires c κs = search needs
-
-slice-aggregate-nodes-in : tie.Need-slice-aggregate-nodes-in
-slice-aggregate-nodes-in c = search needs
-
-nodes-in-requires : tie.Need-nodes-in-requires
-nodes-in-requires c κs = search needs
-
 returns : tie.Need-returns
 returns c =
     let found = c .before .before in
     let start = found .before .before .before .before .before .before .before in
     nodes-long (start .args .n) (start .args .l) (start .args .p) (found .nodes-in .ensures) (start .args .buffer .now) (c .if1 .taken)
 
-slice-aggregate-copy-out : tie.Need-slice-aggregate-copy-out
-slice-aggregate-copy-out c = search needs
-
 copy-out-requires : tie.Need-copy-out-requires
 copy-out-requires c κs =
     (nodes-inside (c .before .before .before .before .nodes-in .ensures), search needs)
-
-same-length : tie.Need-same-length
-same-length c = search needs
 
 returns-2 : tie.Need-returns-2
 returns-2 c =
@@ -41,11 +26,4 @@ pub write-nodes-spec : {M : Type 1} → statement M
 write-nodes-spec =
     tie.close
     (tie.spec
-    node-room-requires
-    slice-aggregate-nodes-in
-    nodes-in-requires
-    returns
-    slice-aggregate-copy-out
-    copy-out-requires
-    same-length
-    returns-2)
+    (λ c κs. search needs) (search needs) (λ c κs. search needs) returns (search needs) copy-out-requires (search needs) returns-2)

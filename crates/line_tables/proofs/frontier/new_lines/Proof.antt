@@ -5,9 +5,6 @@ use borrow.Author.Needs.{needs}
 use Rattle.line_tables.proofs.frontier.new_lines.Statement.{statement}
 use Rattle.line_tables.proofs.frontier.new_lines.Tie as tie
 
-sub-result : tie.Need-sub-result
-sub-result c = search needs
-
 returns : tie.Need-returns
 returns c = more-out (c .before .args .taken) (c .before .args .outgoing) (c .if1 .taken)
 
@@ -18,4 +15,5 @@ returns-3 : tie.Need-returns-3
 returns-3 c = enough-taken (c .before .before .args .taken) (c .before .before .args .outgoing) (c .before .if1 .left) (c .if2 .left)
 
 pub new-lines-spec : {M : Type 1} → statement M
-new-lines-spec = tie.close (tie.spec sub-result returns returns-2 returns-3)
+new-lines-spec = tie.close (tie.spec
+    (search needs) returns returns-2 returns-3)

@@ -39,12 +39,6 @@ add-push-line-2 c =
 push-line-requires : tie.Need-push-line-requires Inv-loop μ-loop
 push-line-requires c κs = step (c .before)
 
-add-pushed : tie.Need-add-pushed Inv-loop μ-loop
-add-pushed c = search needs
-
-loop-less : tie.Need-loop-less Inv-loop μ-loop
-loop-less c = search needs
-
 loop-again : tie.Need-loop-again Inv-loop μ-loop
 loop-again c =
     let start = c .before .before .before .before .before .before .before .args in
@@ -65,14 +59,4 @@ pub push-lines-spec : {M : Type 1} → statement M
 push-lines-spec =
     tie.close
     (tie.spec
-    Inv-loop
-    μ-loop
-    loop-holds
-    add-push-line
-    add-push-line-2
-    push-line-requires
-    add-pushed
-    loop-less
-    loop-again
-    same-length
-    returns)
+    Inv-loop μ-loop loop-holds add-push-line add-push-line-2 push-line-requires (search needs) (search needs) loop-again same-length returns)

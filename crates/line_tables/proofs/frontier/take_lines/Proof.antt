@@ -38,12 +38,6 @@ add-take-line-2 c =
 take-line-requires : tie.Need-take-line-requires Inv-loop μ-loop
 take-line-requires c κs = step (c .before)
 
-add-taken : tie.Need-add-taken Inv-loop μ-loop
-add-taken c = search needs
-
-loop-less : tie.Need-loop-less Inv-loop μ-loop
-loop-less c = search needs
-
 loop-again : tie.Need-loop-again Inv-loop μ-loop
 loop-again c =
     let start = c .before .before .before .before .before .before .before .before .args in
@@ -67,14 +61,4 @@ pub take-lines-spec : {M : Type 1} → statement M
 take-lines-spec =
     tie.close
     (tie.spec
-    Inv-loop
-    μ-loop
-    loop-holds
-    add-take-line
-    add-take-line-2
-    take-line-requires
-    add-taken
-    loop-less
-    loop-again
-    same-length
-    returns)
+    Inv-loop μ-loop loop-holds add-take-line add-take-line-2 take-line-requires (search needs) (search needs) loop-again same-length returns)

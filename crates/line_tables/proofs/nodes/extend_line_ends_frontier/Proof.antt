@@ -10,27 +10,6 @@ use borrow.Author.Needs.{needs}
 use Rattle.line_tables.proofs.nodes.extend_line_ends_frontier.Statement.{statement}
 use Rattle.line_tables.proofs.nodes.extend_line_ends_frontier.Tie as tie
 
-take-node-requires : tie.Need-take-node-requires
-take-node-requires c κs = search needs
-
-mul-outs : tie.Need-mul-outs
-mul-outs c = search needs
-
-add-outs : tie.Need-add-outs
-add-outs c = search needs
-
-mul-outs-2 : tie.Need-mul-outs-2
-mul-outs-2 c = search needs
-
-add-outs-2 : tie.Need-add-outs-2
-add-outs-2 c = search needs
-
-add-outs-3 : tie.Need-add-outs-3
-add-outs-3 c = search needs
-
-word-at-requires : tie.Need-word-at-requires
-word-at-requires c κs = search needs
-
 word-at-requires-2 : tie.Need-word-at-requires-2
 word-at-requires-2 c κs =
     let start = c .before .before .before .before .before .before .before .before .before in
@@ -64,9 +43,6 @@ sub-outgoing c =
     let first = c .before .before .word-at2 .ensures in
     let last = c .word-at3 .ensures in
     omega (arith, first-last-out now (start .pre .1) node first last)
-
-new-lines-requires : tie.Need-new-lines-requires
-new-lines-requires c κs = search needs
 
 list-start-requires : tie.Need-list-start-requires
 list-start-requires c κs =
@@ -127,9 +103,6 @@ add-result c =
     let list = list-read now (start .pre .1) (c .before .before .before .before .before .before .before .before .list-start .ensures) in
     omega (arith, new-small now (start .pre .1) list (taken .0) (start .pre .2) new)
 
-same-length : tie.Need-same-length
-same-length c = search needs
-
 returns : tie.Need-returns
 returns c =
     let start = c .before .before .before .before .before .before .before .before .before .before .before .before .before .before .before .before .before .before .before .before .before .before .before in
@@ -150,22 +123,6 @@ pub extend-line-ends-frontier-spec : {M : Type 1} → statement M
 extend-line-ends-frontier-spec =
     tie.close
     (tie.spec
-    take-node-requires
-    mul-outs
-    add-outs
-    mul-outs-2
-    add-outs-2
-    add-outs-3
-    word-at-requires
-    word-at-requires-2
-    add-word-at
-    word-at-requires-3
-    sub-outgoing
-    new-lines-requires
-    list-start-requires
-    add-create-new-lines
-    create-new-lines-requires
-    push-lines-requires
-    add-result
-    same-length
-    returns)
+    (λ c κs. search needs) (search needs) (search needs) (search needs) (search needs) (search needs) (λ c κs. search needs)
+    word-at-requires-2 add-word-at word-at-requires-3 sub-outgoing (λ c κs. search needs) list-start-requires add-create-new-lines
+    create-new-lines-requires push-lines-requires add-result (search needs) returns)

@@ -9,24 +9,6 @@ use borrow.Author.Needs.{needs}
 use Rattle.line_tables.proofs.nodes.list_start.Statement.{statement}
 use Rattle.line_tables.proofs.nodes.list_start.Tie as tie
 
-word-at-requires : tie.Need-word-at-requires
-word-at-requires c κs = search needs
-
-mul-result : tie.Need-mul-result
-mul-result c = search needs
-
-add-result : tie.Need-add-result
-add-result c = search needs
-
-mul-word-at : tie.Need-mul-word-at
-mul-word-at c = search needs
-
-add-word-at : tie.Need-add-word-at
-add-word-at c = search needs
-
-word-at-requires-2 : tie.Need-word-at-requires-2
-word-at-requires-2 c κs = search needs
-
 add-result-2 : tie.Need-add-result-2
 add-result-2 c = omega (arith, c .before .before .before .pre .list-inside, c .word-at2 .ensures, ap (λ (v : ℕ). getD (c .before .before .before .args .area .now) (nodeStartsAt (c .before .before .before .args .n) + v) 0) (c .before .word-at .ensures))
 
@@ -37,11 +19,4 @@ pub list-start-spec : {M : Type 1} → statement M
 list-start-spec =
     tie.close
     (tie.spec
-    word-at-requires
-    mul-result
-    add-result
-    mul-word-at
-    add-word-at
-    word-at-requires-2
-    add-result-2
-    returns)
+    (λ c κs. search needs) (search needs) (search needs) (search needs) (search needs) (λ c κs. search needs) add-result-2 returns)

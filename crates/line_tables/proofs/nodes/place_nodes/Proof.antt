@@ -25,12 +25,6 @@ loop-holds c = (search needs, no-lines (c .before .before .args .b .now), over-i
 extend-line-ends-frontier-requires : tie.Need-extend-line-ends-frontier-requires Inv-loop μ-loop
 extend-line-ends-frontier-requires c κs = (c .before .before .loop .inv .3, c .before .loop-test .taken, c .before .before .loop .inv .1)
 
-add-t : tie.Need-add-t Inv-loop μ-loop
-add-t c = search needs
-
-loop-less : tie.Need-loop-less Inv-loop μ-loop
-loop-less c = search needs
-
 loop-again : tie.Need-loop-again Inv-loop μ-loop
 loop-again c =
     let turn = c .before .before .before .before .before .loop in
@@ -54,12 +48,4 @@ pub place-nodes-spec : {M : Type 1} → statement M
 place-nodes-spec =
     tie.close
     (tie.spec
-    Inv-loop
-    μ-loop
-    loop-holds
-    extend-line-ends-frontier-requires
-    add-t
-    loop-less
-    loop-again
-    same-length
-    returns)
+    Inv-loop μ-loop loop-holds extend-line-ends-frontier-requires (search needs) (search needs) loop-again same-length returns)

@@ -36,36 +36,6 @@ module _ (c : tie.After-list-start) where
       let start = c .before .before .before .before .before .before .before .before .before .before in
       list-read (start .pre .0 .spread) (start .pre .1) (c .list-start .ensures)
 
-mul-firsts : tie.Need-mul-firsts
-mul-firsts c = search needs
-
-add-firsts : tie.Need-add-firsts
-add-firsts c = search needs
-
-mul-firsts-2 : tie.Need-mul-firsts-2
-mul-firsts-2 c = search needs
-
-add-firsts-2 : tie.Need-add-firsts-2
-add-firsts-2 c = search needs
-
-mul-in-starts : tie.Need-mul-in-starts
-mul-in-starts c = search needs
-
-add-in-starts : tie.Need-add-in-starts
-add-in-starts c = search needs
-
-mul-in-starts-2 : tie.Need-mul-in-starts-2
-mul-in-starts-2 c = search needs
-
-add-in-starts-2 : tie.Need-add-in-starts-2
-add-in-starts-2 c = search needs
-
-add-in-starts-3 : tie.Need-add-in-starts-3
-add-in-starts-3 c = search needs
-
-word-at-requires : tie.Need-word-at-requires
-word-at-requires c κs = search needs
-
 links-start-requires : tie.Need-links-start-requires
 links-start-requires c κs = spanned (c .before .before .before .before .before .pre .0 .spread) (c .before .before .before .before .before .pre .1) (is-node (c .before))
 
@@ -86,9 +56,6 @@ take-lines-requires c κs =
     let start = c .before .before .before .before .before .before .before .before .before .before .before in
     takes-all (start .pre .0) (start .pre .1) (starts-in (c .before)) (lists-at (c .before)) (so-many (c .before))
 
-add-area : tie.Need-add-area
-add-area c = search needs
-
 add-area-2 : tie.Need-add-area-2
 add-area-2 c = omega (arith, node-low (c .before .before .before .before .before .before .before .before .before .before .before .before .before .before .pre .0 .spread) (c .before .before .before .before .before .before .before .before .before .before .before .before .before .before .pre .1), is-node (c .before .before .before .before .before .before .before .before .before .before))
 
@@ -107,9 +74,6 @@ slice-write-area c =
       long-after (start .pre .0) (start .pre .1) (starts-in lists) (lists-at lists) (so-many lists) (c .before .before .take-lines .ensures .1),
     )
 
-same-length : tie.Need-same-length
-same-length c = search needs
-
 returns : tie.Need-returns
 returns c =
     let lists = c .before .before .before .before in
@@ -121,25 +85,6 @@ pub take-node-spec : {M : Type 1} → statement M
 take-node-spec =
     tie.close
     (tie.spec
-    mul-firsts
-    add-firsts
-    mul-firsts-2
-    add-firsts-2
-    mul-in-starts
-    add-in-starts
-    mul-in-starts-2
-    add-in-starts-2
-    add-in-starts-3
-    word-at-requires
-    links-start-requires
-    add-links-start
-    links-start-requires-2
-    sub-incoming
-    list-start-requires
-    take-lines-requires
-    add-area
-    add-area-2
-    mul-area
-    slice-write-area
-    same-length
-    returns)
+    (search needs) (search needs) (search needs) (search needs) (search needs) (search needs) (search needs) (search needs) (search needs)
+    (λ c κs. search needs) links-start-requires add-links-start links-start-requires-2 sub-incoming list-start-requires take-lines-requires
+    (search needs) add-area-2 mul-area slice-write-area (search needs) returns)

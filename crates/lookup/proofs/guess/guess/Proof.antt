@@ -10,22 +10,13 @@ use Rattle.lookup.proofs.Guessing.{product-roundable, rounded-most, mov
 use Rattle.lookup.proofs.guess.guess.Statement.{statement}
 use Rattle.lookup.proofs.guess.guess.Tie as tie
 
-sub-alpha : tie.Need-sub-alpha
-sub-alpha c = search needs
-
 int-to-float-alpha : tie.Need-int-to-float-alpha
 unfolding inFloat
 int-to-float-alpha c = le→leb (c .before .args .pos - c .before .args .left) (2 ^ 53) (omega arith)
 
-sub-alpha-2 : tie.Need-sub-alpha-2
-sub-alpha-2 c = search needs
-
 int-to-float-alpha-2 : tie.Need-int-to-float-alpha-2
 unfolding inFloat
 int-to-float-alpha-2 c = le→leb (c .before .before .args .right - c .before .before .args .left) (2 ^ 53) (omega arith)
-
-sub-round : tie.Need-sub-round
-sub-round c = search needs
 
 int-to-float-round : tie.Need-int-to-float-round
 unfolding inFloat
@@ -41,17 +32,11 @@ add-along c =
     let start = c .before .before .before .before in
     omega (arith, c .round .ensures, rounded-most (start .args .low) (start .args .high) (start .args .left) (start .args .right) (start .args .pos) (start .pre))
 
-add-result : tie.Need-add-result
-add-result c = search needs
-
 returns : tie.Need-returns
 unfolding product quotient float
 returns c =
     let start = c .before .before .before .before .before in
     moved-up (start .args .low) (start .args .high) (start .args .left) (start .args .right) (start .args .pos) (c .before .round .result) (c .before .round .ensures) (c .if1 .taken)
-
-sub-result : tie.Need-sub-result
-sub-result c = search needs
 
 returns-2 : tie.Need-returns-2
 unfolding product quotient float
@@ -69,16 +54,5 @@ pub guess-spec : {M : Type 1} → statement M
 guess-spec =
     tie.close
     (tie.spec
-    sub-alpha
-    int-to-float-alpha
-    sub-alpha-2
-    int-to-float-alpha-2
-    sub-round
-    int-to-float-round
-    round-requires
-    add-along
-    add-result
-    returns
-    sub-result
-    returns-2
-    returns-3)
+    (search needs) int-to-float-alpha (search needs) int-to-float-alpha-2 (search needs) int-to-float-round round-requires add-along
+    (search needs) returns (search needs) returns-2 returns-3)

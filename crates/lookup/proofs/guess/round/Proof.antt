@@ -23,9 +23,6 @@ int-to-float-half : tie.Need-int-to-float-half
 unfolding inFloat
 int-to-float-half c = le→leb (2 * c .before .truncating-f64-to-u64 .result + 1) (2 ^ 53) (omega (arith, whole-few (c .before .before .args .x) (c .before .before .pre) (c .before .truncating-f64-to-u64 .ensures)))
 
-add-result : tie.Need-add-result
-add-result c = search needs
-
 returns : tie.Need-returns
 unfolding float
 returns c = half-reached (c .before .before .before .args .x) (c .before .before .before .pre) (c .before .before .truncating-f64-to-u64 .ensures) (c .if1 .taken)
@@ -38,10 +35,4 @@ pub round-spec : {M : Type 1} → statement M
 round-spec =
     tie.close
     (tie.spec
-    truncating-f64-to-u64-requires
-    mul-half
-    add-half
-    int-to-float-half
-    add-result
-    returns
-    returns-2)
+    truncating-f64-to-u64-requires mul-half add-half int-to-float-half (search needs) returns returns-2)

@@ -31,9 +31,6 @@ returns c =
     let start = c .before .before .before .before .before .before .before .before .before in
     pass-meets (start .pre) (c .before .before .before .before .before .before .loop .inv) (c .before .before .before .before .before .loop-test .taken) (c .before .before .before .pass-link .ensures) (c .if1 .taken)
 
-add-k : tie.Need-add-k Inv-loop μ-loop
-add-k c = search needs
-
 loop-less : tie.Need-loop-less Inv-loop μ-loop
 loop-less c = omega arith
 
@@ -54,14 +51,4 @@ pub first-links-meet-spec : {M : Type 1} → statement M
 first-links-meet-spec =
     tie.close
     (tie.spec
-    Inv-loop
-    μ-loop
-    loop-holds
-    pass-link-requires
-    same-length
-    returns
-    add-k
-    loop-less
-    loop-again
-    same-length-2
-    returns-2)
+    Inv-loop μ-loop loop-holds pass-link-requires same-length returns (search needs) loop-less loop-again same-length-2 returns-2)

@@ -5,19 +5,10 @@ use Rattle.port_conflict.proofs.Ends.{leads-nowhere, leads-by}
 use Rattle.port_conflict.proofs.links.leads_to_input.Statement.{statement}
 use Rattle.port_conflict.proofs.links.leads_to_input.Tie as tie
 
-add-word-at : tie.Need-add-word-at
-add-word-at c = search needs
-
-word-at-requires : tie.Need-word-at-requires
-word-at-requires c κs = search needs
-
 returns : tie.Need-returns
 returns c =
     let start = c .before .before .before in
     leads-nowhere (start .args .area .now) (start .args .marks) (start .args .p) (start .args .port) (start .args .other) (c .before .word-at .ensures) (c .if1 .taken)
-
-word-at-requires-2 : tie.Need-word-at-requires-2
-word-at-requires-2 c κs = search needs
 
 returns-2 : tie.Need-returns-2
 returns-2 c =
@@ -26,4 +17,5 @@ returns-2 c =
 
 pub leads-to-input-spec : {M : Type 1} → statement M
 leads-to-input-spec =
-    tie.close (tie.spec add-word-at word-at-requires returns word-at-requires-2 returns-2)
+    tie.close (tie.spec
+    (search needs) (λ c κs. search needs) returns (λ c κs. search needs) returns-2)

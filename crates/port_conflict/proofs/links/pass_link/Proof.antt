@@ -14,23 +14,8 @@ small s =
     let start = s .before .before .before .before .before .before in
     ends-small (start .pre .0) (start .pre .1) (s .before .before .source-port .ensures) (s .target-port .ensures)
 
-add-marks : tie.Need-add-marks
-add-marks c = search needs
-
-add-marks-2 : tie.Need-add-marks-2
-add-marks-2 c = search needs
-
-source-port-requires : tie.Need-source-port-requires
-source-port-requires c κs = search needs
-
-target-port-requires : tie.Need-target-port-requires
-target-port-requires c κs = search needs
-
 leads-to-input-requires : tie.Need-leads-to-input-requires
 leads-to-input-requires c κs = omega (arith, small (c .before), c .before .before .before .before .before .before .before .pre .0 .room)
-
-same-length : tie.Need-same-length
-same-length c = search needs
 
 returns : tie.Need-returns
 returns c =
@@ -40,16 +25,10 @@ returns c =
 leads-to-input-requires-2 : tie.Need-leads-to-input-requires-2
 leads-to-input-requires-2 c κs = omega (arith, small (c .before .before .before .before), c .before .before .before .before .before .before .before .before .before .before .pre .0 .room)
 
-same-length-2 : tie.Need-same-length-2
-same-length-2 c = search needs
-
 returns-2 : tie.Need-returns-2
 returns-2 c =
     let start = c .before .before .before .before .before .before .before .before .before .before .before .before in
     meets-backward (start .args .b .now) (start .args .area .now) (start .args .n) (start .args .p) (start .args .at) (start .args .k) (c .before .before .before .before .before .before .before .before .source-port .ensures) (c .before .before .before .before .before .before .target-port .ensures) (c .before .leads-to-input2 .ensures) (c .if2 .taken)
-
-add-area : tie.Need-add-area
-add-area c = search needs
 
 add-area-2 : tie.Need-add-area-2
 add-area-2 c = omega (arith, small (c .before .before .before .before .before .before), c .before .before .before .before .before .before .before .before .before .before .before .before .pre .0 .room)
@@ -60,9 +39,6 @@ mul-area c = omega (arith, small (c .before .before .before .before .before .bef
 slice-write-area : tie.Need-slice-write-area
 slice-write-area c = omega (arith, small (c .before .before .before .before .before .before), c .before .before .before .before .before .before .before .before .before .before .before .before .pre .0 .room)
 
-add-area-3 : tie.Need-add-area-3
-add-area-3 c = search needs
-
 add-area-4 : tie.Need-add-area-4
 add-area-4 c = omega (arith, small (c .before .before .before .before .before .before), c .before .before .before .before .before .before .before .before .before .before .before .before .pre .0 .room)
 
@@ -71,9 +47,6 @@ mul-area-2 c = omega (arith, small (c .before .before .before .before .before .b
 
 slice-write-area-2 : tie.Need-slice-write-area-2
 slice-write-area-2 c = lt-length-set (c .before .before .before .before .before .before .before .before .before .before .before .before .args .area .now) _ _ (omega (arith, small (c .before .before .before .before .before .before), c .before .before .before .before .before .before .before .before .before .before .before .before .pre .0 .room))
-
-same-length-3 : tie.Need-same-length-3
-same-length-3 c = search needs
 
 returns-3 : tie.Need-returns-3
 returns-3 c =
@@ -84,23 +57,6 @@ pub pass-link-spec : {M : Type 1} → statement M
 pass-link-spec =
     tie.close
     (tie.spec
-    add-marks
-    add-marks-2
-    source-port-requires
-    target-port-requires
-    leads-to-input-requires
-    same-length
-    returns
-    leads-to-input-requires-2
-    same-length-2
-    returns-2
-    add-area
-    add-area-2
-    mul-area
-    slice-write-area
-    add-area-3
-    add-area-4
-    mul-area-2
-    slice-write-area-2
-    same-length-3
-    returns-3)
+    (search needs) (search needs) (λ c κs. search needs) (λ c κs. search needs) leads-to-input-requires (search needs) returns
+    leads-to-input-requires-2 (search needs) returns-2 (search needs) add-area-2 mul-area slice-write-area (search needs) add-area-4
+    mul-area-2 slice-write-area-2 (search needs) returns-3)

@@ -6,9 +6,6 @@ use Rattle.port_conflict.proofs.Ends.{source-first, source-record, outp
 use Rattle.port_conflict.proofs.links.source_port.Statement.{statement}
 use Rattle.port_conflict.proofs.links.source_port.Tie as tie
 
-link-from-requires : tie.Need-link-from-requires
-link-from-requires c κs = search needs
-
 word-at-requires : tie.Need-word-at-requires
 word-at-requires c κs =
     let start = c .before .before .before in
@@ -23,9 +20,6 @@ add-result : tie.Need-add-result
 add-result c =
     let start = c .before .before .before .before .before in
     omega (arith, outputs-start (start .pre .0) (start .pre .1) (c .before .before .link-from .ensures) (c .before .word-at .ensures) (c .num-inputs .ensures))
-
-link-out-requires : tie.Need-link-out-requires
-link-out-requires c κs = search needs
 
 add-result-2 : tie.Need-add-result-2
 add-result-2 c =
@@ -45,10 +39,4 @@ pub source-port-spec : {M : Type 1} → statement M
 source-port-spec =
     tie.close
     (tie.spec
-    link-from-requires
-    word-at-requires
-    num-inputs-requires
-    add-result
-    link-out-requires
-    add-result-2
-    returns)
+    (λ c κs. search needs) word-at-requires num-inputs-requires add-result (λ c κs. search needs) add-result-2 returns)

@@ -6,16 +6,10 @@ use Rattle.port_conflict.proofs.Ends.{target-first, target-is, target-s
 use Rattle.port_conflict.proofs.links.target_port.Statement.{statement}
 use Rattle.port_conflict.proofs.links.target_port.Tie as tie
 
-link-to-requires : tie.Need-link-to-requires
-link-to-requires c κs = search needs
-
 word-at-requires : tie.Need-word-at-requires
 word-at-requires c κs =
     let start = c .before .before .before in
     target-first (start .pre .0) (start .pre .1) (c .link-to .ensures)
-
-link-in-requires : tie.Need-link-in-requires
-link-in-requires c κs = search needs
 
 add-result : tie.Need-add-result
 add-result c =
@@ -33,4 +27,5 @@ returns c =
 
 pub target-port-spec : {M : Type 1} → statement M
 target-port-spec =
-    tie.close (tie.spec link-to-requires word-at-requires link-in-requires add-result returns)
+    tie.close (tie.spec
+    (λ c κs. search needs) word-at-requires (λ c κs. search needs) add-result returns)

@@ -10,21 +10,10 @@ use Rattle.port_conflict.proofs.marks.mark_port.Tie as tie
 returns : tie.Need-returns
 returns c = record { says = sym (le-ltb (c .before .args .port) (c .before .args .p) (omega (arith, c .if1 .taken))); left = refl }
 
-add-area : tie.Need-add-area
-add-area c = search needs
-
-mul-area : tie.Need-mul-area
-mul-area c = search needs
-
-slice-write-area : tie.Need-slice-write-area
-slice-write-area c = search needs
-
-same-length : tie.Need-same-length
-same-length c = search needs
-
 returns-2 : tie.Need-returns-2
 returns-2 c = record { says = sym (lt-ltb (c .before .args .port) (c .before .args .p) (omega (arith, c .if1 .left))); left = refl }
 
 pub mark-port-spec : {M : Type 1} → statement M
 mark-port-spec =
-    tie.close (tie.spec returns add-area mul-area slice-write-area same-length returns-2)
+    tie.close (tie.spec
+    returns (search needs) (search needs) (search needs) (search needs) returns-2)

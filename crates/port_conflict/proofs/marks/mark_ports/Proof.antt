@@ -14,28 +14,10 @@ Inv-loop area₀ marks p ports i₀ area i = MarkedUpto area₀ area marks p por
 abbrev μ-loop : tie.MeasureT-loop
 μ-loop area₀ marks p ports i₀ area i = length ports - i
 
-fill-requires : tie.Need-fill-requires Inv-loop μ-loop
-fill-requires c κs = search needs
-
 loop-holds : tie.Need-loop-holds Inv-loop μ-loop
 loop-holds c =
     let start = c .before .before .before .before .before .before in
     marking-starts (start .args .area .now) (start .args .marks) (start .args .p) (start .pre) (c .before .before .fill .ensures) (start .args .ports .now)
-
-mul-wide : tie.Need-mul-wide Inv-loop μ-loop
-mul-wide c = search needs
-
-shared-slice-read-wide : tie.Need-shared-slice-read-wide Inv-loop μ-loop
-shared-slice-read-wide c = search needs
-
-wide-requires : tie.Need-wide-requires Inv-loop μ-loop
-wide-requires c κs = search needs
-
-mark-port-requires : tie.Need-mark-port-requires Inv-loop μ-loop
-mark-port-requires c κs = search needs
-
-same-length : tie.Need-same-length Inv-loop μ-loop
-same-length c = search needs
 
 returns : tie.Need-returns Inv-loop μ-loop
 returns c =
@@ -43,9 +25,6 @@ returns c =
     let head = c .before .before .before .before .before .before .before .before in
     unknown-entry (start .args .area .now) (start .args .marks) (start .args .p) (start .pre) (head .before .before .before .fill .ensures) (start .args .ports .now) (head .loop .inv) (c .before .before .before .before .before .before .before .loop-test .taken)
     (c .before .before .before .before .wide .ensures) (c .before .before .before .mark-port .ensures) (c .if1 .taken)
-
-add-i : tie.Need-add-i Inv-loop μ-loop
-add-i c = search needs
 
 loop-less : tie.Need-loop-less Inv-loop μ-loop
 loop-less c = omega arith
@@ -57,9 +36,6 @@ loop-again c =
     marking-next (start .args .area .now) (start .args .marks) (start .args .p) (start .pre) (head .before .before .before .fill .ensures) (start .args .ports .now) (head .loop .inv) (c .before .before .before .before .before .before .before .loop-test .taken)
     (c .before .before .before .before .wide .ensures) (c .before .before .before .mark-port .ensures) (c .if1 .left)
 
-same-length-2 : tie.Need-same-length-2 Inv-loop μ-loop
-same-length-2 c = search needs
-
 returns-2 : tie.Need-returns-2 Inv-loop μ-loop
 returns-2 c =
     let start = c .before .before .before .before .before .before .before .before in
@@ -69,18 +45,5 @@ pub mark-ports-spec : {M : Type 1} → statement M
 mark-ports-spec =
     tie.close
     (tie.spec
-    Inv-loop
-    μ-loop
-    fill-requires
-    loop-holds
-    mul-wide
-    shared-slice-read-wide
-    wide-requires
-    mark-port-requires
-    same-length
-    returns
-    add-i
-    loop-less
-    loop-again
-    same-length-2
-    returns-2)
+    Inv-loop μ-loop (λ c κs. search needs) loop-holds (search needs) (search needs) (λ c κs. search needs) (λ c κs. search needs)
+    (search needs) returns (search needs) loop-less loop-again (search needs) returns-2)

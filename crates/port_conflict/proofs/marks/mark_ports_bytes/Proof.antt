@@ -28,28 +28,10 @@ entry s =
     s .wide .ensures ∙ s .before .field-at .ensures
     ∙ sym (getD-table (λ j. word ports (2 * j)) (length ports / 2) (s .before .before .before .before .loop .i) 0 (s .before .before .before .loop-test .taken))
 
-fill-requires : tie.Need-fill-requires Inv-loop μ-loop
-fill-requires c κs = search needs
-
 loop-holds : tie.Need-loop-holds Inv-loop μ-loop
 loop-holds c =
     let start = c .before .before .before .before .before .before in
     marking-starts (start .args .area .now) (start .args .marks) (start .args .p) (start .pre) (c .before .before .fill .ensures) (wordsFrom (start .args .ports .now))
-
-mul-field-at : tie.Need-mul-field-at Inv-loop μ-loop
-mul-field-at c = search needs
-
-field-at-requires : tie.Need-field-at-requires Inv-loop μ-loop
-field-at-requires c κs = search needs
-
-wide-requires : tie.Need-wide-requires Inv-loop μ-loop
-wide-requires c κs = search needs
-
-mark-port-requires : tie.Need-mark-port-requires Inv-loop μ-loop
-mark-port-requires c κs = search needs
-
-same-length : tie.Need-same-length Inv-loop μ-loop
-same-length c = search needs
 
 returns : tie.Need-returns Inv-loop μ-loop
 returns c =
@@ -57,9 +39,6 @@ returns c =
     let head = c .before .before .before .before .before .before .before .before in
     unknown-entry (start .args .area .now) (start .args .marks) (start .args .p) (start .pre) (head .before .before .before .fill .ensures) (wordsFrom (start .args .ports .now)) (head .loop .inv) (omega (arith, c .before .before .before .before .before .before .before .loop-test .taken, length-wordsFrom (start .args .ports .now)))
     (entry (c .before .before .before .before)) (c .before .before .before .mark-port .ensures) (c .if1 .taken)
-
-add-i : tie.Need-add-i Inv-loop μ-loop
-add-i c = search needs
 
 loop-less : tie.Need-loop-less Inv-loop μ-loop
 loop-less c = omega arith
@@ -71,9 +50,6 @@ loop-again c =
     marking-next (start .args .area .now) (start .args .marks) (start .args .p) (start .pre) (head .before .before .before .fill .ensures) (wordsFrom (start .args .ports .now)) (head .loop .inv) (omega (arith, c .before .before .before .before .before .before .before .loop-test .taken, length-wordsFrom (start .args .ports .now)))
     (entry (c .before .before .before .before)) (c .before .before .before .mark-port .ensures) (c .if1 .left)
 
-same-length-2 : tie.Need-same-length-2 Inv-loop μ-loop
-same-length-2 c = search needs
-
 returns-2 : tie.Need-returns-2 Inv-loop μ-loop
 returns-2 c =
     let start = c .before .before .before .before .before .before .before .before in
@@ -83,18 +59,5 @@ pub mark-ports-bytes-spec : {M : Type 1} → statement M
 mark-ports-bytes-spec =
     tie.close
     (tie.spec
-    Inv-loop
-    μ-loop
-    fill-requires
-    loop-holds
-    mul-field-at
-    field-at-requires
-    wide-requires
-    mark-port-requires
-    same-length
-    returns
-    add-i
-    loop-less
-    loop-again
-    same-length-2
-    returns-2)
+    Inv-loop μ-loop (λ c κs. search needs) loop-holds (search needs) (λ c κs. search needs) (λ c κs. search needs) (λ c κs. search needs)
+    (search needs) returns (search needs) loop-less loop-again (search needs) returns-2)

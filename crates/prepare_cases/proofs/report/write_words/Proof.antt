@@ -12,21 +12,7 @@ Inv-loop words at₀ at = at ≤ length words
 abbrev μ-loop : tie.MeasureT-loop
 μ-loop words at₀ at = length words - at
 
-loop-holds : tie.Need-loop-holds Inv-loop μ-loop
-loop-holds c = search needs
-
-write-run-requires : tie.Need-write-run-requires Inv-loop μ-loop
-write-run-requires c κs = search needs
-
-loop-less : tie.Need-loop-less Inv-loop μ-loop
-loop-less c = search needs
-
-loop-again : tie.Need-loop-again Inv-loop μ-loop
-loop-again c = search needs
-
-returns : tie.Need-returns Inv-loop μ-loop
-returns c = search needs
-
 pub write-words-spec : {M : Type 1} → statement M
 write-words-spec =
-    tie.close (tie.spec Inv-loop μ-loop loop-holds write-run-requires loop-less loop-again returns)
+    tie.close (tie.spec
+    Inv-loop μ-loop (search needs) (λ c κs. search needs) (search needs) (search needs) (search needs))

@@ -17,32 +17,14 @@ Inv-loop words at told i₀ i =
 abbrev μ-loop : tie.MeasureT-loop
 μ-loop words at told i₀ i = length told - i
 
-sub-if1 : tie.Need-sub-if1 Inv-loop μ-loop
-sub-if1 c = search needs
-
 returns : tie.Need-returns Inv-loop μ-loop
 returns c = let start = c .before .before .before .args in too-few (start .words .now) (start .at) (start .told .now) (c .if1 .taken)
 
 loop-holds : tie.Need-loop-holds Inv-loop μ-loop
 loop-holds c = (search needs, omega arith, refl)
 
-add-told-word : tie.Need-add-told-word Inv-loop μ-loop
-add-told-word c = search needs
-
-mul-told-word : tie.Need-mul-told-word Inv-loop μ-loop
-mul-told-word c = search needs
-
 shared-slice-read-told-word : tie.Need-shared-slice-read-told-word Inv-loop μ-loop
 shared-slice-read-told-word c = omega arith
-
-told-word-requires : tie.Need-told-word-requires Inv-loop μ-loop
-told-word-requires c κs = search needs
-
-mul-if2 : tie.Need-mul-if2 Inv-loop μ-loop
-mul-if2 c = search needs
-
-shared-slice-read-if2 : tie.Need-shared-slice-read-if2 Inv-loop μ-loop
-shared-slice-read-if2 c = search needs
 
 returns-2 : tie.Need-returns-2 Inv-loop μ-loop
 returns-2 c =
@@ -51,12 +33,6 @@ returns-2 c =
     front-other (start .words .now) (start .at) (start .told .now) (turn .inv .1) (turn .i) (omega arith)
     (λ e. c .if2 .taken (c .before .before .told-word .ensures ∙ e))
     (turn .inv .2)
-
-add-i : tie.Need-add-i Inv-loop μ-loop
-add-i c = search needs
-
-loop-less : tie.Need-loop-less Inv-loop μ-loop
-loop-less c = search needs
 
 loop-again : tie.Need-loop-again Inv-loop μ-loop
 loop-again c =
@@ -79,19 +55,5 @@ pub begins-spec : {M : Type 1} → statement M
 begins-spec =
     tie.close
     (tie.spec
-    Inv-loop
-    μ-loop
-    sub-if1
-    returns
-    loop-holds
-    add-told-word
-    mul-told-word
-    shared-slice-read-told-word
-    told-word-requires
-    mul-if2
-    shared-slice-read-if2
-    returns-2
-    add-i
-    loop-less
-    loop-again
-    returns-3)
+    Inv-loop μ-loop (search needs) returns loop-holds (search needs) (search needs) shared-slice-read-told-word (λ c κs. search needs)
+    (search needs) (search needs) returns-2 (search needs) (search needs) loop-again returns-3)

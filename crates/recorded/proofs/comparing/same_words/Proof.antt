@@ -22,15 +22,6 @@ returns c = let start = c .before .args in sym (other-length (start .xs .now) (s
 loop-holds : tie.Need-loop-holds Inv-loop μ-loop
 loop-holds c = (search needs, c .if1 .left, refl)
 
-mul-if2 : tie.Need-mul-if2 Inv-loop μ-loop
-mul-if2 c = search needs
-
-shared-slice-read-if2 : tie.Need-shared-slice-read-if2 Inv-loop μ-loop
-shared-slice-read-if2 c = search needs
-
-mul-if2-2 : tie.Need-mul-if2-2 Inv-loop μ-loop
-mul-if2-2 c = search needs
-
 shared-slice-read-if2-2 : tie.Need-shared-slice-read-if2-2 Inv-loop μ-loop
 shared-slice-read-if2-2 c = omega arith
 
@@ -39,12 +30,6 @@ returns-2 c =
     let turn = c .before .before .before .before .loop in
     let start = c .before .before .before .before .before .before .args in
     other-here (start .xs .now) (start .ys .now) (turn .i) (omega arith) (omega arith) (c .if2 .taken) (turn .inv .2)
-
-add-i : tie.Need-add-i Inv-loop μ-loop
-add-i c = search needs
-
-loop-less : tie.Need-loop-less Inv-loop μ-loop
-loop-less c = search needs
 
 loop-again : tie.Need-loop-again Inv-loop μ-loop
 loop-again c =
@@ -62,16 +47,5 @@ pub same-words-spec : {M : Type 1} → statement M
 same-words-spec =
     tie.close
     (tie.spec
-    Inv-loop
-    μ-loop
-    returns
-    loop-holds
-    mul-if2
-    shared-slice-read-if2
-    mul-if2-2
-    shared-slice-read-if2-2
-    returns-2
-    add-i
-    loop-less
-    loop-again
-    returns-3)
+    Inv-loop μ-loop returns loop-holds (search needs) (search needs) (search needs) shared-slice-read-if2-2 returns-2 (search needs)
+    (search needs) loop-again returns-3)

@@ -12,27 +12,9 @@ returns : tie.Need-returns
 unfolding ListAt
 returns c = omega arith
 
-add-from : tie.Need-add-from
-add-from c = search needs
-
-mul-wide : tie.Need-mul-wide
-mul-wide c = search needs
-
-shared-slice-read-wide : tie.Need-shared-slice-read-wide
-shared-slice-read-wide c = search needs
-
-wide-requires : tie.Need-wide-requires
-wide-requires c κs = search needs
-
-sub-if2 : tie.Need-sub-if2
-sub-if2 c = search needs
-
 returns-2 : tie.Need-returns-2
 unfolding ListAt
 returns-2 c = omega (arith, c .before .wide .ensures)
-
-add-t5 : tie.Need-add-t5
-add-t5 c = search needs
 
 returns-3 : tie.Need-returns-3
 unfolding ListAt
@@ -42,12 +24,4 @@ pub list-at-spec : {M : Type 1} → statement M
 list-at-spec =
     tie.close
     (tie.spec
-    returns
-    add-from
-    mul-wide
-    shared-slice-read-wide
-    wide-requires
-    sub-if2
-    returns-2
-    add-t5
-    returns-3)
+    returns (search needs) (search needs) (search needs) (λ c κs. search needs) (search needs) returns-2 (search needs) returns-3)

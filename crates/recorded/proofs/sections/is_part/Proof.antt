@@ -7,12 +7,6 @@ use Rattle.recorded.proofs.Used.{not-so, is-between}
 use Rattle.recorded.proofs.sections.is_part.Statement.{statement}
 use Rattle.recorded.proofs.sections.is_part.Tie as tie
 
-enum-known-part : tie.Need-enum-known-part
-enum-known-part c = search needs
-
-enum-told : tie.Need-enum-told
-enum-told c = search needs
-
 returns : tie.Need-returns
 returns c = not-so
 
@@ -31,12 +25,6 @@ sub-is-list c = in-order (c .before .before .before .before .before .before .bef
 part-is-list-start : tie.Need-part-is-list-start
 part-is-list-start c = let ordered = in-order (c .before .before .before .before .before .before .before .pre) (c .before .before .before .part .given .1) in search needs
 
-part-is-list-end : tie.Need-part-is-list-end
-part-is-list-end c = search needs
-
-is-list-requires : tie.Need-is-list-requires
-is-list-requires c κs = search needs
-
 returns-4 : tie.Need-returns-4
 returns-4 c =
     let start = c .before .before .before .before .before .before .before .before .before in
@@ -47,14 +35,5 @@ pub is-part-spec : {M : Type 1} → statement M
 is-part-spec =
     tie.close
     (tie.spec
-    enum-known-part
-    enum-told
-    returns
-    returns-2
-    returns-3
-    mul-is-list
-    sub-is-list
-    part-is-list-start
-    part-is-list-end
-    is-list-requires
-    returns-4)
+    (search needs) (search needs) returns returns-2 returns-3 mul-is-list sub-is-list part-is-list-start (search needs)
+    (λ c κs. search needs) returns-4)

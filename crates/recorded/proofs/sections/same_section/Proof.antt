@@ -9,34 +9,16 @@ use Rattle.recorded.proofs.Used.{not-so, is-section}
 use Rattle.recorded.proofs.sections.same_section.Statement.{statement}
 use Rattle.recorded.proofs.sections.same_section.Tie as tie
 
-read-map-requires : tie.Need-read-map-requires
-read-map-requires c κs = search needs
-
-enum-known-found : tie.Need-enum-known-found
-enum-known-found c = search needs
-
-enum-told : tie.Need-enum-told
-enum-told c = search needs
-
 returns : tie.Need-returns
 returns c = not-so
 
 returns-2 : tie.Need-returns-2
 returns-2 c = not-so
 
-shared-slice-read-wide : tie.Need-shared-slice-read-wide
-shared-slice-read-wide c = search needs
-
-wide-requires : tie.Need-wide-requires
-wide-requires c κs = search needs
-
 section-requires : tie.Need-section-requires
 section-requires c κs =
     let well = read-well _ _ _ _ (ap mapSaid (sym (c .before .before .before .before .found .given .1)) ∙ c .before .before .before .before .before .before .read-map .ensures) in
     (well .few-nodes, well .few-links, omega (arith, c .wide .ensures, c .before .shared-slice-known4 .given 0))
-
-is-part-requires : tie.Need-is-part-requires
-is-part-requires c κs = search needs
 
 returns-3 : tie.Need-returns-3
 returns-3 c so =
@@ -51,13 +33,5 @@ pub same-section-spec : {M : Type 1} → statement M
 same-section-spec =
     tie.close
     (tie.spec
-    read-map-requires
-    enum-known-found
-    enum-told
-    returns
-    returns-2
-    shared-slice-read-wide
-    wide-requires
-    section-requires
-    is-part-requires
-    returns-3)
+    (λ c κs. search needs) (search needs) (search needs) returns returns-2 (search needs) (λ c κs. search needs) section-requires
+    (λ c κs. search needs) returns-3)

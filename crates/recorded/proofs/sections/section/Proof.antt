@@ -8,54 +8,6 @@ use Rattle.recorded.proofs.Used.{stands-at}
 use Rattle.recorded.proofs.sections.section.Statement.{statement}
 use Rattle.recorded.proofs.sections.section.Tie as tie
 
-add-positions : tie.Need-add-positions
-add-positions c = search needs
-
-add-node-starts : tie.Need-add-node-starts
-add-node-starts c = search needs
-
-add-node-lines : tie.Need-add-node-lines
-add-node-lines c = search needs
-
-add-node-lines-2 : tie.Need-add-node-lines-2
-add-node-lines-2 c = search needs
-
-mul-line-starts : tie.Need-mul-line-starts
-mul-line-starts c = search needs
-
-add-line-starts : tie.Need-add-line-starts
-add-line-starts c = search needs
-
-add-line-starts-2 : tie.Need-add-line-starts-2
-add-line-starts-2 c = search needs
-
-add-line-nodes : tie.Need-add-line-nodes
-add-line-nodes c = search needs
-
-add-line-nodes-2 : tie.Need-add-line-nodes-2
-add-line-nodes-2 c = search needs
-
-add-line-nodes-3 : tie.Need-add-line-nodes-3
-add-line-nodes-3 c = search needs
-
-add-t13 : tie.Need-add-t13
-add-t13 c = search needs
-
-add-t14 : tie.Need-add-t14
-add-t14 c = search needs
-
-add-t15 : tie.Need-add-t15
-add-t15 c = search needs
-
-add-t16 : tie.Need-add-t16
-add-t16 c = search needs
-
-add-t17 : tie.Need-add-t17
-add-t17 c = search needs
-
-add-t18 : tie.Need-add-t18
-add-t18 c = search needs
-
 returns : tie.Need-returns
 unfolding Ordered usedAt
 returns c =
@@ -100,26 +52,6 @@ pub section-spec : {M : Type 1} → statement M
 section-spec =
     tie.close
     (tie.spec
-    add-positions
-    add-node-starts
-    add-node-lines
-    add-node-lines-2
-    mul-line-starts
-    add-line-starts
-    add-line-starts-2
-    add-line-nodes
-    add-line-nodes-2
-    add-line-nodes-3
-    add-t13
-    add-t14
-    add-t15
-    add-t16
-    add-t17
-    add-t18
-    returns
-    returns-2
-    returns-3
-    returns-4
-    returns-5
-    returns-6
-    returns-7)
+    (search needs) (search needs) (search needs) (search needs) (search needs) (search needs) (search needs) (search needs) (search needs)
+    (search needs) (search needs) (search needs) (search needs) (search needs) (search needs) (search needs) returns returns-2 returns-3
+    returns-4 returns-5 returns-6 returns-7)

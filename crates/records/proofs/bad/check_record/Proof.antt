@@ -16,45 +16,15 @@ known c =
     let start = c .before .before .before .before .before .before .before .before in
     good-line (start .pre .0) (start .pre .1 .0) (c .before .before .before .is-bad .ensures) (c .before .before .if1 .left) (c .wide .ensures)
 
-is-bad-requires : tie.Need-is-bad-requires
-is-bad-requires c κs = search needs
-
-same-length : tie.Need-same-length
-same-length c = search needs
-
 returns : tie.Need-returns
 returns c =
     let start = c .before .before .before .before .before .before in
     bad-left (start .pre .0) (start .pre .1 .0) (c .before .is-bad .ensures) (c .if1 .taken)
 
-mul-wide : tie.Need-mul-wide
-mul-wide c = search needs
-
-mul-wide-2 : tie.Need-mul-wide-2
-mul-wide-2 c = search needs
-
-shared-slice-read-wide : tie.Need-shared-slice-read-wide
-shared-slice-read-wide c = search needs
-
-wide-requires : tie.Need-wide-requires
-wide-requires c κs = search needs
-
 cast-area : tie.Need-cast-area
 cast-area c =
     let start = c .before .before .before .before .before .before .before .before in
     omega (arith, few-passed (start .pre .0) (start .pre .1 .0), start .pre .0 .read .few-nodes, start .pre .0 .read .few-links)
-
-mul-area : tie.Need-mul-area
-mul-area c = search needs
-
-add-area : tie.Need-add-area
-add-area c = search needs
-
-mul-area-2 : tie.Need-mul-area-2
-mul-area-2 c = search needs
-
-add-area-2 : tie.Need-add-area-2
-add-area-2 c = search needs
 
 add-area-3 : tie.Need-add-area-3
 add-area-3 c =
@@ -71,24 +41,6 @@ slice-write-area c =
     let start = c .before .before .before .before .before .before .before .before in
     omega (arith, known c, count-few (start .pre .0), start .pre .0 .room)
 
-mul-area-4 : tie.Need-mul-area-4
-mul-area-4 c = search needs
-
-add-area-4 : tie.Need-add-area-4
-add-area-4 c = search needs
-
-mul-area-5 : tie.Need-mul-area-5
-mul-area-5 c = search needs
-
-add-area-5 : tie.Need-add-area-5
-add-area-5 c = search needs
-
-add-area-6 : tie.Need-add-area-6
-add-area-6 c = search needs
-
-add-area-7 : tie.Need-add-area-7
-add-area-7 c = search needs
-
 add-area-8 : tie.Need-add-area-8
 add-area-8 c =
     let start = c .before .before .before .before .before .before .before .before in
@@ -104,9 +56,6 @@ slice-write-area-2 c =
     let start = c .before .before .before .before .before .before .before .before in
     omega (arith, known c, count-few (start .pre .0), start .pre .0 .room, length-set (start .args .area .now) (slotsAt (start .args .n) (start .args .l) + c .wide .result) (start .args .i))
 
-same-length-2 : tie.Need-same-length-2
-same-length-2 c = search needs
-
 returns-2 : tie.Need-returns-2
 returns-2 c =
     let start = c .before .before .before .before .before .before .before .before in
@@ -116,29 +65,6 @@ pub check-record-spec : {M : Type 1} → statement M
 check-record-spec =
     tie.close
     (tie.spec
-    is-bad-requires
-    same-length
-    returns
-    mul-wide
-    mul-wide-2
-    shared-slice-read-wide
-    wide-requires
-    cast-area
-    mul-area
-    add-area
-    mul-area-2
-    add-area-2
-    add-area-3
-    mul-area-3
-    slice-write-area
-    mul-area-4
-    add-area-4
-    mul-area-5
-    add-area-5
-    add-area-6
-    add-area-7
-    add-area-8
-    mul-area-6
-    slice-write-area-2
-    same-length-2
-    returns-2)
+    (λ c κs. search needs) (search needs) returns (search needs) (search needs) (search needs) (λ c κs. search needs) cast-area
+    (search needs) (search needs) (search needs) (search needs) add-area-3 mul-area-3 slice-write-area (search needs) (search needs)
+    (search needs) (search needs) (search needs) (search needs) add-area-8 mul-area-6 slice-write-area-2 (search needs) returns-2)

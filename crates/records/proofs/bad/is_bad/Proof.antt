@@ -13,53 +13,11 @@ use Rattle.records.proofs.bad.is_bad.Tie as tie
 known : (c : tie.Else1) → c .before .before .before .before .before .wide .result < K (c .before .before .before .before .before .before .before .before .before .before .args .b .now) (c .before .before .before .before .before .before .before .before .before .before .args .area .now)
 known c = omega (arith, c .if1 .left, c .before .wide2 .ensures, count-is (c .before .before .before .before .before .before .before .before .before .before .pre .0))
 
-mul-at : tie.Need-mul-at
-mul-at c = search needs
-
-mul-wide : tie.Need-mul-wide
-mul-wide c = search needs
-
-shared-slice-read-wide : tie.Need-shared-slice-read-wide
-shared-slice-read-wide c = search needs
-
-wide-requires : tie.Need-wide-requires
-wide-requires c κs = search needs
-
-word-at-requires : tie.Need-word-at-requires
-word-at-requires c κs = search needs
-
-word-at-requires-2 : tie.Need-word-at-requires-2
-word-at-requires-2 c κs = search needs
-
-shared-slice-read-wide-2 : tie.Need-shared-slice-read-wide-2
-shared-slice-read-wide-2 c = search needs
-
-wide-requires-2 : tie.Need-wide-requires-2
-wide-requires-2 c κs = search needs
-
 returns : tie.Need-returns
 returns c =
     let reads = c .before .before .before in
     let start = reads .before .before .before .before .before .before .before in
     unknown-line (start .args .b .now) (start .args .area .now) (start .args .words .now) (start .args .i) (reads .before .before .wide .ensures) (reads .before .word-at .ensures) (reads .word-at2 .ensures) (omega (arith, c .if1 .taken, c .before .wide2 .ensures, count-is (start .pre .0)))
-
-mul-word-at : tie.Need-mul-word-at
-mul-word-at c = search needs
-
-add-word-at : tie.Need-add-word-at
-add-word-at c = search needs
-
-mul-word-at-2 : tie.Need-mul-word-at-2
-mul-word-at-2 c = search needs
-
-add-word-at-2 : tie.Need-add-word-at-2
-add-word-at-2 c = search needs
-
-add-word-at-3 : tie.Need-add-word-at-3
-add-word-at-3 c = search needs
-
-add-word-at-4 : tie.Need-add-word-at-4
-add-word-at-4 c = search needs
 
 word-at-requires-3 : tie.Need-word-at-requires-3
 word-at-requires-3 c κs =
@@ -102,25 +60,6 @@ pub is-bad-spec : {M : Type 1} → statement M
 is-bad-spec =
     tie.close
     (tie.spec
-    mul-at
-    mul-wide
-    shared-slice-read-wide
-    wide-requires
-    word-at-requires
-    word-at-requires-2
-    shared-slice-read-wide-2
-    wide-requires-2
-    returns
-    mul-word-at
-    add-word-at
-    mul-word-at-2
-    add-word-at-2
-    add-word-at-3
-    add-word-at-4
-    word-at-requires-3
-    returns-2
-    stands-on-requires
-    returns-3
-    stands-on-requires-2
-    returns-4
-    returns-5)
+    (search needs) (search needs) (search needs) (λ c κs. search needs) (λ c κs. search needs) (λ c κs. search needs) (search needs)
+    (λ c κs. search needs) returns (search needs) (search needs) (search needs) (search needs) (search needs) (search needs)
+    word-at-requires-3 returns-2 stands-on-requires returns-3 stands-on-requires-2 returns-4 returns-5)

@@ -9,12 +9,6 @@ use Rattle.records.proofs.bad.stands_on.Tie as tie
 index-on-requires : tie.Need-index-on-requires
 index-on-requires c κs = line-at (c .before .before .pre .0) (c .before .before .args .x) (c .before .before .pre .1)
 
-enum-told : tie.Need-enum-told
-enum-told c = search needs
-
-enum-told-2 : tie.Need-enum-told-2
-enum-told-2 c = search needs
-
 returns : tie.Need-returns
 returns c =
     let start = c .before .before .before .before .before in
@@ -26,4 +20,5 @@ returns-2 c =
     stands-there (start .pre .0) (start .pre .1) (start .args .pos) (c .before .before .index-on .ensures) (c .enum-told .given .1)
 
 pub stands-on-spec : {M : Type 1} → statement M
-stands-on-spec = tie.close (tie.spec index-on-requires enum-told enum-told-2 returns returns-2)
+stands-on-spec = tie.close (tie.spec
+    index-on-requires (search needs) (search needs) returns returns-2)

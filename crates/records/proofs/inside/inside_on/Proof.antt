@@ -14,46 +14,10 @@ fits c =
     whole (args .area .now) (args .words .now) (args .n) (args .l) (args .pos) (args .x) (c .before .before .word-at .ensures) (c .before .if1 .left) (c .word-at2 .ensures)
     (c .before .before .before .before .before .pre)
 
-mul-word-at : tie.Need-mul-word-at
-mul-word-at c = search needs
-
-add-word-at : tie.Need-add-word-at
-add-word-at c = search needs
-
-mul-word-at-2 : tie.Need-mul-word-at-2
-mul-word-at-2 c = search needs
-
-add-word-at-2 : tie.Need-add-word-at-2
-add-word-at-2 c = search needs
-
-add-word-at-3 : tie.Need-add-word-at-3
-add-word-at-3 c = search needs
-
-add-word-at-4 : tie.Need-add-word-at-4
-add-word-at-4 c = search needs
-
-word-at-requires : tie.Need-word-at-requires
-word-at-requires c κs = search needs
-
 returns : tie.Need-returns
 returns c =
     let args = c .before .before .before .before .args in
     unmarked (args .area .now) (args .words .now) (args .n) (args .l) (args .pos) (args .x) (c .before .word-at .ensures) (c .if1 .taken)
-
-mul-word-at-3 : tie.Need-mul-word-at-3
-mul-word-at-3 c = search needs
-
-add-word-at-5 : tie.Need-add-word-at-5
-add-word-at-5 c = search needs
-
-mul-word-at-4 : tie.Need-mul-word-at-4
-mul-word-at-4 c = search needs
-
-add-word-at-6 : tie.Need-add-word-at-6
-add-word-at-6 c = search needs
-
-word-at-requires-2 : tie.Need-word-at-requires-2
-word-at-requires-2 c κs = search needs
 
 mul-at : tie.Need-mul-at
 mul-at c = omega (arith, fits c)
@@ -82,21 +46,5 @@ pub inside-on-spec : {M : Type 1} → statement M
 inside-on-spec =
     tie.close
     (tie.spec
-    mul-word-at
-    add-word-at
-    mul-word-at-2
-    add-word-at-2
-    add-word-at-3
-    add-word-at-4
-    word-at-requires
-    returns
-    mul-word-at-3
-    add-word-at-5
-    mul-word-at-4
-    add-word-at-6
-    word-at-requires-2
-    mul-at
-    word-at-requires-3
-    returns-2
-    word-at-requires-4
-    returns-3)
+    (search needs) (search needs) (search needs) (search needs) (search needs) (search needs) (λ c κs. search needs) returns (search needs)
+    (search needs) (search needs) (search needs) (λ c κs. search needs) mul-at word-at-requires-3 returns-2 word-at-requires-4 returns-3)

@@ -21,15 +21,6 @@ abbrev μ-loop : tie.MeasureT-loop
 loop-holds : tie.Need-loop-holds Inv-loop μ-loop
 loop-holds c = (omega arith, below-none _)
 
-mul-wide : tie.Need-mul-wide Inv-loop μ-loop
-mul-wide c = search needs
-
-shared-slice-read-wide : tie.Need-shared-slice-read-wide Inv-loop μ-loop
-shared-slice-read-wide c = search needs
-
-wide-requires : tie.Need-wide-requires Inv-loop μ-loop
-wide-requires c κs = search needs
-
 inside-on-requires : tie.Need-inside-on-requires Inv-loop μ-loop
 inside-on-requires c κs =
     let turn = c .before .before in
@@ -42,12 +33,6 @@ returns c =
     let turn = read .before .before in
     let start = turn .before .before .before .before .before in
     opposite-here (insideSlot (start .args .area .now) (start .args .words .now) (start .args .n) (start .args .l) (start .args .pos)) (start .args .lines .now) (turn .loop-test .taken) (read .wide .ensures) (c .before .inside-on .ensures) (c .if1 .taken)
-
-add-i : tie.Need-add-i Inv-loop μ-loop
-add-i c = search needs
-
-loop-less : tie.Need-loop-less Inv-loop μ-loop
-loop-less c = search needs
 
 loop-again : tie.Need-loop-again Inv-loop μ-loop
 loop-again c =
@@ -65,15 +50,5 @@ pub outside-on-some-spec : {M : Type 1} → statement M
 outside-on-some-spec =
     tie.close
     (tie.spec
-    Inv-loop
-    μ-loop
-    loop-holds
-    mul-wide
-    shared-slice-read-wide
-    wide-requires
-    inside-on-requires
-    returns
-    add-i
-    loop-less
-    loop-again
-    returns-2)
+    Inv-loop μ-loop loop-holds (search needs) (search needs) (λ c κs. search needs) inside-on-requires returns (search needs) (search needs)
+    loop-again returns-2)

@@ -5,27 +5,6 @@ use Rattle.records.proofs.Slots.{slots-read, nowhere-inside, somewhere-
 use Rattle.records.proofs.inside.straddles.Statement.{statement}
 use Rattle.records.proofs.inside.straddles.Tie as tie
 
-mul-entries : tie.Need-mul-entries
-mul-entries c = search needs
-
-add-entries : tie.Need-add-entries
-add-entries c = search needs
-
-mul-entries-2 : tie.Need-mul-entries-2
-mul-entries-2 c = search needs
-
-add-entries-2 : tie.Need-add-entries-2
-add-entries-2 c = search needs
-
-entries-requires : tie.Need-entries-requires
-entries-requires c κs = search needs
-
-add-word-at : tie.Need-add-word-at
-add-word-at c = search needs
-
-word-at-requires : tie.Need-word-at-requires
-word-at-requires c κs = search needs
-
 inside-on-some-requires : tie.Need-inside-on-some-requires
 inside-on-some-requires c κs =
     let start = c .before .before .before .before in
@@ -54,14 +33,5 @@ pub straddles-spec : {M : Type 1} → statement M
 straddles-spec =
     tie.close
     (tie.spec
-    mul-entries
-    add-entries
-    mul-entries-2
-    add-entries-2
-    entries-requires
-    add-word-at
-    word-at-requires
-    inside-on-some-requires
-    returns
-    outside-on-some-requires
-    returns-2)
+    (search needs) (search needs) (search needs) (search needs) (λ c κs. search needs) (search needs) (λ c κs. search needs)
+    inside-on-some-requires returns outside-on-some-requires returns-2)

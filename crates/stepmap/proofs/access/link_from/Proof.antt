@@ -6,21 +6,10 @@ use Rattle.stepmap.proofs.Fields.{from-field}
 use Rattle.stepmap.proofs.access.link_from.Statement.{statement}
 use Rattle.stepmap.proofs.access.link_from.Tie as tie
 
-mul-number-at : tie.Need-mul-number-at
-mul-number-at c = search needs
-
-mul-number-at-2 : tie.Need-mul-number-at-2
-mul-number-at-2 c = search needs
-
-add-number-at : tie.Need-add-number-at
-add-number-at c = search needs
-
-number-at-requires : tie.Need-number-at-requires
-number-at-requires c κs = search needs
-
 returns : tie.Need-returns
 returns c = c .number-at .ensures ∙ from-field _ _ _ (c .before .before .pre .nodes)
 
 pub link-from-spec : {M : Type 1} → statement M
 link-from-spec =
-    tie.close (tie.spec mul-number-at mul-number-at-2 add-number-at number-at-requires returns)
+    tie.close (tie.spec
+    (search needs) (search needs) (search needs) (λ c κs. search needs) returns)

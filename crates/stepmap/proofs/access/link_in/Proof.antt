@@ -6,21 +6,6 @@ use Rattle.stepmap.proofs.Fields.{in-field}
 use Rattle.stepmap.proofs.access.link_in.Statement.{statement}
 use Rattle.stepmap.proofs.access.link_in.Tie as tie
 
-mul-number-at : tie.Need-mul-number-at
-mul-number-at c = search needs
-
-mul-number-at-2 : tie.Need-mul-number-at-2
-mul-number-at-2 c = search needs
-
-add-number-at : tie.Need-add-number-at
-add-number-at c = search needs
-
-add-number-at-2 : tie.Need-add-number-at-2
-add-number-at-2 c = search needs
-
-number-at-requires : tie.Need-number-at-requires
-number-at-requires c κs = search needs
-
 returns : tie.Need-returns
 returns c = c .number-at .ensures ∙ in-field _ _ _ (c .before .before .pre .nodes)
 
@@ -28,9 +13,4 @@ pub link-in-spec : {M : Type 1} → statement M
 link-in-spec =
     tie.close
     (tie.spec
-    mul-number-at
-    mul-number-at-2
-    add-number-at
-    add-number-at-2
-    number-at-requires
-    returns)
+    (search needs) (search needs) (search needs) (search needs) (λ c κs. search needs) returns)

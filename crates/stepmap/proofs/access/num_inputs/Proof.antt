@@ -5,15 +5,10 @@ use Rattle.paper.specs.Map.{ins}
 use Rattle.stepmap.proofs.access.num_inputs.Statement.{statement}
 use Rattle.stepmap.proofs.access.num_inputs.Tie as tie
 
-mul-number-at : tie.Need-mul-number-at
-mul-number-at c = search needs
-
-number-at-requires : tie.Need-number-at-requires
-number-at-requires c κs = search needs
-
 returns : tie.Need-returns
 unfolding ins
 returns c = c .number-at .ensures
 
 pub num-inputs-spec : {M : Type 1} → statement M
-num-inputs-spec = tie.close (tie.spec mul-number-at number-at-requires returns)
+num-inputs-spec = tie.close (tie.spec
+    (search needs) (λ c κs. search needs) returns)

@@ -5,18 +5,10 @@ use Rattle.paper.specs.Map.{outs}
 use Rattle.stepmap.proofs.access.num_outputs.Statement.{statement}
 use Rattle.stepmap.proofs.access.num_outputs.Tie as tie
 
-mul-number-at : tie.Need-mul-number-at
-mul-number-at c = search needs
-
-add-number-at : tie.Need-add-number-at
-add-number-at c = search needs
-
-number-at-requires : tie.Need-number-at-requires
-number-at-requires c κs = search needs
-
 returns : tie.Need-returns
 unfolding outs
 returns c = c .number-at .ensures
 
 pub num-outputs-spec : {M : Type 1} → statement M
-num-outputs-spec = tie.close (tie.spec mul-number-at add-number-at number-at-requires returns)
+num-outputs-spec = tie.close (tie.spec
+    (search needs) (search needs) (λ c κs. search needs) returns)

@@ -7,9 +7,6 @@ use Rattle.stepmap.proofs.Marking.{mark-below, mark-set, mark-clear, an
 use Rattle.stepmap.proofs.links.check_link.Statement.{statement}
 use Rattle.stepmap.proofs.links.check_link.Tie as tie
 
-is-missing-requires : tie.Need-is-missing-requires
-is-missing-requires c κs = search needs
-
 returns : tie.Need-returns
 returns c = answer-4 _ _ _ (sym (c .before .is-missing .ensures) ∙ c .if1 .taken)
 
@@ -43,9 +40,6 @@ slice-write-marks c =
     let here = sym (c .before .before .before .before .is-missing .ensures) ∙ c .before .before .before .if1 .left in
     mark-below (c .before .before .before .before .before .before .before .before .pre) here (c .before .before .target-port .ensures)
 
-same-length : tie.Need-same-length
-same-length c = search needs
-
 returns-3 : tie.Need-returns-3
 returns-3 c =
     let here = sym (c .before .before .before .before .is-missing .ensures) ∙ c .before .before .before .if1 .left in
@@ -56,13 +50,5 @@ pub check-link-spec : {M : Type 1} → statement M
 check-link-spec =
     tie.close
     (tie.spec
-    is-missing-requires
-    returns
-    target-port-requires
-    mul-if2
-    slice-read-if2
-    returns-2
-    mul-marks
-    slice-write-marks
-    same-length
+    (λ c κs. search needs) returns target-port-requires mul-if2 slice-read-if2 returns-2 mul-marks slice-write-marks (search needs)
     returns-3)

@@ -46,12 +46,6 @@ check-link-requires c κs =
     let stand = firsts-from _ (made .result) _ (c .before .before .before .before .before .before .first-ports .ensures) (made .ensures) (well .few-nodes) in
     link-ready well (c .before .before .loop-test .taken) stand (c .before .before .before .loop .inv)
 
-enum-told : tie.Need-enum-told Inv-loop μ-loop
-enum-told c = search needs
-
-enum-told-2 : tie.Need-enum-told-2 Inv-loop μ-loop
-enum-told-2 c = search needs
-
 returns : tie.Need-returns Inv-loop μ-loop
 returns c =
     let made = c .before .before .before .before .before .before .before .before .before .before .before .before .node-room in
@@ -83,20 +77,6 @@ pub check-links-spec : {M : Type 1} → statement M
 check-links-spec =
     tie.close
     (tie.spec
-    Inv-loop
-    μ-loop
-    node-room-requires
-    slice-aggregate-first-ports
-    first-ports-requires
-    port-room-requires
-    loop-holds
-    slice-aggregate-check-link
-    slice-aggregate-check-link-2
-    check-link-requires
-    enum-told
-    enum-told-2
-    returns
-    add-k
-    loop-less
-    loop-again
-    returns-2)
+    Inv-loop μ-loop node-room-requires slice-aggregate-first-ports first-ports-requires port-room-requires loop-holds
+    slice-aggregate-check-link slice-aggregate-check-link-2 check-link-requires (search needs) (search needs) returns add-k loop-less
+    loop-again returns-2)

@@ -6,12 +6,6 @@ use Rattle.stepmap.specs.Said.{linksSaid}
 use Rattle.stepmap.proofs.links.link_refusal.Statement.{statement}
 use Rattle.stepmap.proofs.links.link_refusal.Tie as tie
 
-enum-known-found : tie.Need-enum-known-found
-enum-known-found c = search needs
-
-enum-told : tie.Need-enum-told
-enum-told c = search needs
-
 never-requires : tie.Need-never-requires
 never-requires c κs = c .before .before .pre (ap linksSaid (c .enum-told .given .1))
 
@@ -22,4 +16,5 @@ returns-2 : tie.Need-returns-2
 returns-2 c = sym (ap linksSaid (c .before .found .given .1))
 
 pub link-refusal-spec : {M : Type 1} → statement M
-link-refusal-spec = tie.close (tie.spec enum-known-found enum-told never-requires returns returns-2)
+link-refusal-spec = tie.close (tie.spec
+    (search needs) (search needs) never-requires returns returns-2)

@@ -7,9 +7,6 @@ use Rattle.stepmap.proofs.Marking.{node-below, target}
 use Rattle.stepmap.proofs.links.target_port.Statement.{statement}
 use Rattle.stepmap.proofs.links.target_port.Tie as tie
 
-link-to-requires : tie.Need-link-to-requires
-link-to-requires c κs = search needs
-
 mul-wide : tie.Need-mul-wide
 mul-wide c =
     let pre = c .before .before .before .pre in
@@ -19,12 +16,6 @@ shared-slice-read-wide : tie.Need-shared-slice-read-wide
 shared-slice-read-wide c =
     let pre = c .before .before .before .before .pre in
     omega (arith, node-below (pre .0) (pre .1 .0) (pre .1 .1), c .before .link-to .ensures, pre .1 .0 .room)
-
-wide-requires : tie.Need-wide-requires
-wide-requires c κs = search needs
-
-link-in-requires : tie.Need-link-in-requires
-link-in-requires c κs = search needs
 
 add-result : tie.Need-add-result
 add-result c =
@@ -41,10 +32,4 @@ pub target-port-spec : {M : Type 1} → statement M
 target-port-spec =
     tie.close
     (tie.spec
-    link-to-requires
-    mul-wide
-    shared-slice-read-wide
-    wide-requires
-    link-in-requires
-    add-result
-    returns)
+    (λ c κs. search needs) mul-wide shared-slice-read-wide (λ c κs. search needs) (λ c κs. search needs) add-result returns)

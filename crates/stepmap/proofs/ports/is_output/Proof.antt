@@ -7,9 +7,6 @@ use Rattle.stepmap.proofs.Reading.{nodes-below}
 use Rattle.stepmap.proofs.ports.is_output.Statement.{statement}
 use Rattle.stepmap.proofs.ports.is_output.Tie as tie
 
-port-node-requires : tie.Need-port-node-requires
-port-node-requires c κs = search needs
-
 first-port-requires : tie.Need-first-port-requires
 first-port-requires c κs =
     let b = c .before .before .args .b .now in
@@ -37,4 +34,5 @@ returns c = output-test _ _ (c .before .before .port-node .ensures) (c .before .
 pub is-output-spec : {M : Type 1} → statement M
 is-output-spec =
     tie.close
-    (tie.spec port-node-requires first-port-requires num-inputs-requires add-result returns)
+    (tie.spec
+    (λ c κs. search needs) first-port-requires num-inputs-requires add-result returns)

@@ -7,9 +7,6 @@ use Rattle.stepmap.proofs.Reading.{nodes-below}
 use Rattle.stepmap.proofs.ports.port_offset.Statement.{statement}
 use Rattle.stepmap.proofs.ports.port_offset.Tie as tie
 
-port-node-requires : tie.Need-port-node-requires
-port-node-requires c κs = search needs
-
 first-port-requires : tie.Need-first-port-requires
 first-port-requires c κs =
     let b = c .before .before .args .b .now in
@@ -52,10 +49,4 @@ pub port-offset-spec : {M : Type 1} → statement M
 port-offset-spec =
     tie.close
     (tie.spec
-    port-node-requires
-    first-port-requires
-    num-inputs-requires
-    add-outputs
-    sub-result
-    returns
-    returns-2)
+    (λ c κs. search needs) first-port-requires num-inputs-requires add-outputs sub-result returns returns-2)

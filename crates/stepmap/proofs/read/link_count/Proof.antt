@@ -5,18 +5,10 @@ use Rattle.paper.specs.Map.{trailer, L}
 use Rattle.stepmap.proofs.read.link_count.Statement.{statement}
 use Rattle.stepmap.proofs.read.link_count.Tie as tie
 
-sub-number-at : tie.Need-sub-number-at
-sub-number-at c = search needs
-
-add-number-at : tie.Need-add-number-at
-add-number-at c = search needs
-
-number-at-requires : tie.Need-number-at-requires
-number-at-requires c κs = search needs
-
 returns : tie.Need-returns
 unfolding trailer L
 returns c = c .number-at .ensures
 
 pub link-count-spec : {M : Type 1} → statement M
-link-count-spec = tie.close (tie.spec sub-number-at add-number-at number-at-requires returns)
+link-count-spec = tie.close (tie.spec
+    (search needs) (search needs) (λ c κs. search needs) returns)

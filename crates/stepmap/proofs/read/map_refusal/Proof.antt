@@ -11,12 +11,6 @@ use Rattle.stepmap.proofs.read.map_refusal.Tie as tie
 same : {r s : StepMap} → r ≡ s → ruling (mapSaid s) ≡ ruling (mapSaid r)
 same e = ap (λ (r : StepMap). ruling (mapSaid r)) (sym e)
 
-enum-known-read : tie.Need-enum-known-read
-enum-known-read c = search needs
-
-enum-told : tie.Need-enum-told
-enum-told c = search needs
-
 never-requires : tie.Need-never-requires
 unfolding ruling
 never-requires c κs = c .before .before .pre (sym (same (c .enum-told .given .1)))
@@ -30,4 +24,5 @@ unfolding ruling
 returns-2 c = same (c .before .read .given .1)
 
 pub map-refusal-spec : {M : Type 1} → statement M
-map-refusal-spec = tie.close (tie.spec enum-known-read enum-told never-requires returns returns-2)
+map-refusal-spec = tie.close (tie.spec
+    (search needs) (search needs) never-requires returns returns-2)

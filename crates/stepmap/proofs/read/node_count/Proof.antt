@@ -5,18 +5,10 @@ use Rattle.paper.specs.Map.{trailer, N}
 use Rattle.stepmap.proofs.read.node_count.Statement.{statement}
 use Rattle.stepmap.proofs.read.node_count.Tie as tie
 
-sub-number-at : tie.Need-sub-number-at
-sub-number-at c = search needs
-
-add-number-at : tie.Need-add-number-at
-add-number-at c = search needs
-
-number-at-requires : tie.Need-number-at-requires
-number-at-requires c κs = search needs
-
 returns : tie.Need-returns
 unfolding trailer N
 returns c = c .number-at .ensures
 
 pub node-count-spec : {M : Type 1} → statement M
-node-count-spec = tie.close (tie.spec sub-number-at add-number-at number-at-requires returns)
+node-count-spec = tie.close (tie.spec
+    (search needs) (search needs) (λ c κs. search needs) returns)

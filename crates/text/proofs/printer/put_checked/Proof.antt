@@ -9,17 +9,8 @@ use Rattle.text.proofs.Printed.{put-both, reply-short}
 use Rattle.text.proofs.printer.put_checked.Statement.{statement}
 use Rattle.text.proofs.printer.put_checked.Tie as tie
 
-put-reply-requires : tie.Need-put-reply-requires
-put-reply-requires c κs = search needs
-
-slice-aggregate-put-numbered : tie.Need-slice-aggregate-put-numbered
-slice-aggregate-put-numbered c = search needs
-
 put-numbered-requires : tie.Need-put-numbered-requires
 put-numbered-requires c κs = omega (arith, reply-short (replyOf (c .before .before .before .before .before .before .before .args .reply)))
-
-same-length : tie.Need-same-length
-same-length c = search needs
 
 returns : tie.Need-returns
 unfolding showLine
@@ -31,8 +22,4 @@ pub put-checked-spec : {M : Type 1} → statement M
 put-checked-spec =
     tie.close
     (tie.spec
-    put-reply-requires
-    slice-aggregate-put-numbered
-    put-numbered-requires
-    same-length
-    returns)
+    (λ c κs. search needs) (search needs) put-numbered-requires (search needs) returns)

@@ -22,36 +22,9 @@ Inv-loop out₀ at steps end₀ i₀ t7 out end i =
 abbrev μ-loop : tie.MeasureT-loop
 μ-loop out₀ at steps end₀ i₀ t7 out end i = length steps - i
 
-slice-aggregate-put-text : tie.Need-slice-aggregate-put-text Inv-loop μ-loop
-slice-aggregate-put-text c = search needs
-
-put-text-requires : tie.Need-put-text-requires Inv-loop μ-loop
-put-text-requires c κs = search needs
-
 loop-holds : tie.Need-loop-holds Inv-loop μ-loop
 unfolding flatMap
 loop-holds c = (search needs, refl, search needs, record { stands = refl; ends = search needs })
-
-slice-aggregate-put-numbered : tie.Need-slice-aggregate-put-numbered Inv-loop μ-loop
-slice-aggregate-put-numbered c = search needs
-
-mul-wide : tie.Need-mul-wide Inv-loop μ-loop
-mul-wide c = search needs
-
-shared-slice-read-wide : tie.Need-shared-slice-read-wide Inv-loop μ-loop
-shared-slice-read-wide c = search needs
-
-wide-requires : tie.Need-wide-requires Inv-loop μ-loop
-wide-requires c κs = search needs
-
-put-numbered-requires : tie.Need-put-numbered-requires Inv-loop μ-loop
-put-numbered-requires c κs = search needs
-
-add-i : tie.Need-add-i Inv-loop μ-loop
-add-i c = search needs
-
-loop-less : tie.Need-loop-less Inv-loop μ-loop
-loop-less c = search needs
 
 loop-again : tie.Need-loop-again Inv-loop μ-loop
 loop-again c =
@@ -70,9 +43,6 @@ loop-again c =
       text-more (λ v. ascii " " ++ decimal v) _ (loop .loop .i) (search needs) (loop .loop .inv .3) (rw (← told .wide .ensures) (put .put-numbered .ensures)),
     )
 
-same-length : tie.Need-same-length Inv-loop μ-loop
-same-length c = search needs
-
 returns : tie.Need-returns Inv-loop μ-loop
 unfolding showWay
 returns c =
@@ -85,18 +55,5 @@ pub put-path-spec : {M : Type 1} → statement M
 put-path-spec =
     tie.close
     (tie.spec
-    Inv-loop
-    μ-loop
-    slice-aggregate-put-text
-    put-text-requires
-    loop-holds
-    slice-aggregate-put-numbered
-    mul-wide
-    shared-slice-read-wide
-    wide-requires
-    put-numbered-requires
-    add-i
-    loop-less
-    loop-again
-    same-length
-    returns)
+    Inv-loop μ-loop (search needs) (λ c κs. search needs) loop-holds (search needs) (search needs) (search needs) (λ c κs. search needs)
+    (λ c κs. search needs) (search needs) (search needs) loop-again (search needs) returns)

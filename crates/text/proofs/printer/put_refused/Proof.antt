@@ -8,20 +8,8 @@ use Rattle.text.proofs.Printed.{put-both, decimal-short}
 use Rattle.text.proofs.printer.put_refused.Statement.{statement}
 use Rattle.text.proofs.printer.put_refused.Tie as tie
 
-slice-aggregate-put-numbered : tie.Need-slice-aggregate-put-numbered
-slice-aggregate-put-numbered c = search needs
-
-put-numbered-requires : tie.Need-put-numbered-requires
-put-numbered-requires c κs = search needs
-
-slice-aggregate-put-numbered-2 : tie.Need-slice-aggregate-put-numbered-2
-slice-aggregate-put-numbered-2 c = search needs
-
 put-numbered-requires-2 : tie.Need-put-numbered-requires-2
 put-numbered-requires-2 c κs = omega (arith, decimal-short (c .before .before .before .before .before .before .before .before .args .number))
-
-same-length : tie.Need-same-length
-same-length c = search needs
 
 returns : tie.Need-returns
 unfolding showRefused
@@ -34,9 +22,4 @@ pub put-refused-spec : {M : Type 1} → statement M
 put-refused-spec =
     tie.close
     (tie.spec
-    slice-aggregate-put-numbered
-    put-numbered-requires
-    slice-aggregate-put-numbered-2
-    put-numbered-requires-2
-    same-length
-    returns)
+    (search needs) (λ c κs. search needs) (search needs) put-numbered-requires-2 (search needs) returns)

@@ -6,19 +6,10 @@ use Rattle.text.proofs.Printed.{put-then, refused-short}
 use Rattle.text.proofs.printer.put_refused_line.Statement.{statement}
 use Rattle.text.proofs.printer.put_refused_line.Tie as tie
 
-put-refused-requires : tie.Need-put-refused-requires
-put-refused-requires c κs = search needs
-
-slice-aggregate-put-text : tie.Need-slice-aggregate-put-text
-slice-aggregate-put-text c = search needs
-
 put-text-requires : tie.Need-put-text-requires
 put-text-requires c κs =
     let given = c .before .before .before .before .before .before .before .args in
     omega (arith, refused-short (given .number) (given .place))
-
-same-length : tie.Need-same-length
-same-length c = search needs
 
 returns : tie.Need-returns
 returns c = put-then (c .before .before .before .before .before .before .before .put-refused .ensures) (c .before .before .put-text .ensures)
@@ -26,4 +17,5 @@ returns c = put-then (c .before .before .before .before .before .before .before 
 pub put-refused-line-spec : {M : Type 1} → statement M
 put-refused-line-spec =
     tie.close
-    (tie.spec put-refused-requires slice-aggregate-put-text put-text-requires same-length returns)
+    (tie.spec
+    (λ c κs. search needs) (search needs) put-text-requires (search needs) returns)

@@ -19,29 +19,8 @@ abbrev μ-loop : tie.MeasureT-loop
 loop-holds : tie.Need-loop-holds Inv-loop μ-loop
 loop-holds c = (search needs, refl, refl)
 
-shared-slice-read-out : tie.Need-shared-slice-read-out Inv-loop μ-loop
-shared-slice-read-out c = search needs
-
-add-out : tie.Need-add-out Inv-loop μ-loop
-add-out c = search needs
-
-slice-write-out : tie.Need-slice-write-out Inv-loop μ-loop
-slice-write-out c = search needs
-
-add-i : tie.Need-add-i Inv-loop μ-loop
-add-i c = search needs
-
-loop-less : tie.Need-loop-less Inv-loop μ-loop
-loop-less c = search needs
-
 loop-again : tie.Need-loop-again Inv-loop μ-loop
 loop-again c = (search needs, search needs, byte-more _ _ _ _ (search needs) (c .before .before .loop .inv .2))
-
-add-result : tie.Need-add-result Inv-loop μ-loop
-add-result c = search needs
-
-same-length : tie.Need-same-length Inv-loop μ-loop
-same-length c = search needs
 
 returns : tie.Need-returns Inv-loop μ-loop
 returns c = record { stands = c .before .loop .inv .2 ∙ ap (sets _ _) (take-all _ _ (c .loop-test .left)); ends = omega arith }
@@ -50,15 +29,5 @@ pub put-text-spec : {M : Type 1} → statement M
 put-text-spec =
     tie.close
     (tie.spec
-    Inv-loop
-    μ-loop
-    loop-holds
-    shared-slice-read-out
-    add-out
-    slice-write-out
-    add-i
-    loop-less
-    loop-again
-    add-result
-    same-length
-    returns)
+    Inv-loop μ-loop loop-holds (search needs) (search needs) (search needs) (search needs) (search needs) loop-again (search needs)
+    (search needs) returns)

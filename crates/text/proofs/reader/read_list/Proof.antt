@@ -21,25 +21,10 @@ returns c = read-none _ _ (c .if1 .taken)
 loop-holds : tie.Need-loop-holds Inv-loop μ-loop
 loop-holds c = (refl, read-start _ _ (c .if1 .left))
 
-number-requires : tie.Need-number-requires Inv-loop μ-loop
-number-requires c κs = search needs
-
-enum-known-answer : tie.Need-enum-known-answer Inv-loop μ-loop
-enum-known-answer c = search needs
-
-enum-told : tie.Need-enum-told Inv-loop μ-loop
-enum-told c = search needs
-
-same-length : tie.Need-same-length Inv-loop μ-loop
-same-length c = search needs
-
 returns-2 : tie.Need-returns-2 Inv-loop μ-loop
 returns-2 c =
     let asked = c .before .before in
     read-bad (asked .before .before .before .loop .inv .1) (search needs) (sym (asked .number .ensures) ∙ c .enum-told .given .1)
-
-mul-list : tie.Need-mul-list Inv-loop μ-loop
-mul-list c = search needs
 
 slice-write-list : tie.Need-slice-write-list Inv-loop μ-loop
 slice-write-list c = omega arith
@@ -58,9 +43,6 @@ loop-again c =
     let read = sym (asked .number .ensures) ∙ c .before .answer .given .1 in
     (search needs, read-more (asked .before .before .before .loop .inv .1) (search needs) (omega arith) read)
 
-same-length-2 : tie.Need-same-length-2 Inv-loop μ-loop
-same-length-2 c = search needs
-
 returns-3 : tie.Need-returns-3 Inv-loop μ-loop
 returns-3 c =
     let far = c .before .before .loop .inv .1 in
@@ -70,19 +52,5 @@ pub read-list-spec : {M : Type 1} → statement M
 read-list-spec =
     tie.close
     (tie.spec
-    Inv-loop
-    μ-loop
-    returns
-    loop-holds
-    number-requires
-    enum-known-answer
-    enum-told
-    same-length
-    returns-2
-    mul-list
-    slice-write-list
-    add-count
-    loop-less
-    loop-again
-    same-length-2
-    returns-3)
+    Inv-loop μ-loop returns loop-holds (λ c κs. search needs) (search needs) (search needs) (search needs) returns-2 (search needs)
+    slice-write-list add-count loop-less loop-again (search needs) returns-3)

@@ -10,20 +10,11 @@ use Rattle.text.proofs.reader.read_number.Tie as tie
 returns : tie.Need-returns
 returns c = no-number _ (c .if1 .taken)
 
-value-of-requires : tie.Need-value-of-requires
-value-of-requires c κs = search needs
-
 returns-2 : tie.Need-returns-2
 returns-2 c = c .value-of .ensures ∙ one-digit _ (c .before .if2 .taken)
 
-shared-slice-read-if3 : tie.Need-shared-slice-read-if3
-shared-slice-read-if3 c = search needs
-
 returns-3 : tie.Need-returns-3
 returns-3 c = needless-zero (c .before .before .before .before .before .args .text .now) (omega arith) (c .if3 .taken)
-
-value-of-requires-2 : tie.Need-value-of-requires-2
-value-of-requires-2 c κs = search needs
 
 returns-4 : tie.Need-returns-4
 returns-4 c = c .value-of2 .ensures ∙ more-digits (c .before .before .before .before .before .before .args .text .now) (omega arith) (c .before .if3 .left)
@@ -32,10 +23,4 @@ pub read-number-spec : {M : Type 1} → statement M
 read-number-spec =
     tie.close
     (tie.spec
-    returns
-    value-of-requires
-    returns-2
-    shared-slice-read-if3
-    returns-3
-    value-of-requires-2
-    returns-4)
+    returns (λ c κs. search needs) returns-2 (search needs) returns-3 (λ c κs. search needs) returns-4)

@@ -19,9 +19,6 @@ abbrev μ-loop : tie.MeasureT-loop
 loop-holds : tie.Need-loop-holds Inv-loop μ-loop
 loop-holds c = (search needs, search needs, refl)
 
-shared-slice-read-x : tie.Need-shared-slice-read-x Inv-loop μ-loop
-shared-slice-read-x c = search needs
-
 returns : tie.Need-returns Inv-loop μ-loop
 returns c =
     let turn = c .before .before .before .loop in
@@ -32,15 +29,6 @@ returns-2 c =
     let turn = c .before .before .before .before .loop in
     digit-above _ (turn .i) (turn .value) (c .before .before .before .loop-test .taken) (omega arith) ∙ sym (turn .inv .2)
 
-mul-value : tie.Need-mul-value Inv-loop μ-loop
-mul-value c = search needs
-
-digit-requires : tie.Need-digit-requires Inv-loop μ-loop
-digit-requires c κs = search needs
-
-add-value : tie.Need-add-value Inv-loop μ-loop
-add-value c = search needs
-
 returns-3 : tie.Need-returns-3 Inv-loop μ-loop
 returns-3 c =
     let first = c .before .before .before in
@@ -49,12 +37,6 @@ returns-3 c =
     let within = first .before .before .loop-test .taken in
     too-large _ (drop (turn .i + 1) text) (omega arith)
     ∙ sym (turn .inv .2 ∙ digit-more text (turn .i) (turn .value) within (omega arith) (omega arith) (c .before .digit .ensures))
-
-add-i : tie.Need-add-i Inv-loop μ-loop
-add-i c = search needs
-
-loop-less : tie.Need-loop-less Inv-loop μ-loop
-loop-less c = search needs
 
 loop-again : tie.Need-loop-again Inv-loop μ-loop
 loop-again c =
@@ -67,9 +49,6 @@ loop-again c =
       turn .inv .2 ∙ digit-more text (turn .i) (turn .value) within (omega arith) (omega arith) (c .before .digit .ensures),
     )
 
-cast-t10 : tie.Need-cast-t10 Inv-loop μ-loop
-cast-t10 c = search needs
-
 returns-4 : tie.Need-returns-4 Inv-loop μ-loop
 returns-4 c = read-over _ _ (c .loop-test .left) (c .before .loop .inv .1) ∙ sym (c .before .loop .inv .2)
 
@@ -77,18 +56,5 @@ pub value-of-spec : {M : Type 1} → statement M
 value-of-spec =
     tie.close
     (tie.spec
-    Inv-loop
-    μ-loop
-    loop-holds
-    shared-slice-read-x
-    returns
-    returns-2
-    mul-value
-    digit-requires
-    add-value
-    returns-3
-    add-i
-    loop-less
-    loop-again
-    cast-t10
-    returns-4)
+    Inv-loop μ-loop loop-holds (search needs) returns returns-2 (search needs) (λ c κs. search needs) (search needs) returns-3
+    (search needs) (search needs) loop-again (search needs) returns-4)

@@ -39,12 +39,6 @@ slice-write-area c =
     let head = c .before .before .before in
     place-inside (head .before .before .pre) (head .loop .inv .1) (c .before .before .loop-test .taken) (c .word-at .ensures)
 
-add-i : tie.Need-add-i Inv-loop μ-loop
-add-i c = search needs
-
-loop-less : tie.Need-loop-less Inv-loop μ-loop
-loop-less c = search needs
-
 loop-again : tie.Need-loop-again Inv-loop μ-loop
 loop-again c =
     let head = c .before .before .before in (
@@ -62,16 +56,5 @@ pub keep-places-spec : {M : Type 1} → statement M
 keep-places-spec =
     tie.close
     (tie.spec
-    Inv-loop
-    μ-loop
-    loop-holds
-    word-at-requires
-    cast-area
-    add-area
-    mul-area
-    slice-write-area
-    add-i
-    loop-less
-    loop-again
-    same-length
-    returns)
+    Inv-loop μ-loop loop-holds word-at-requires cast-area add-area mul-area slice-write-area (search needs) (search needs) loop-again
+    same-length returns)

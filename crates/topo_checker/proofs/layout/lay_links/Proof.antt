@@ -16,45 +16,6 @@ use Rattle.topo_checker.proofs.Laying.{links-laid}
 use Rattle.topo_checker.proofs.layout.lay_links.Statement.{statement}
 use Rattle.topo_checker.proofs.layout.lay_links.Tie as tie
 
-mul-firsts : tie.Need-mul-firsts
-mul-firsts c = search needs
-
-add-firsts : tie.Need-add-firsts
-add-firsts c = search needs
-
-mul-firsts-2 : tie.Need-mul-firsts-2
-mul-firsts-2 c = search needs
-
-add-firsts-2 : tie.Need-add-firsts-2
-add-firsts-2 c = search needs
-
-add-keys : tie.Need-add-keys
-add-keys c = search needs
-
-add-keys-2 : tie.Need-add-keys-2
-add-keys-2 c = search needs
-
-add-starts : tie.Need-add-starts
-add-starts c = search needs
-
-add-sorted : tie.Need-add-sorted
-add-sorted c = search needs
-
-add-sorted-2 : tie.Need-add-sorted-2
-add-sorted-2 c = search needs
-
-mul-first-ports : tie.Need-mul-first-ports
-mul-first-ports c = search needs
-
-sub-first-ports : tie.Need-sub-first-ports
-sub-first-ports c = search needs
-
-part-first-ports-start : tie.Need-part-first-ports-start
-part-first-ports-start c = search needs
-
-part-first-ports-end : tie.Need-part-first-ports-end
-part-first-ports-end c = search needs
-
 first-ports-requires : tie.Need-first-ports-requires
 first-ports-requires c κs =
     let start = c .before .before .before in
@@ -72,9 +33,6 @@ links-by-output-requires c κs =
     (map (firstPort (args .b .now)) (upto (args .n + 1))) (length-table (firstPort (args .b .now)) (args .n + 1) ∙ omega arith) (omega (arith, firsts-fit (start .pre)))
     (c .before .before .before .first-ports .ensures))
 
-same-length : tie.Need-same-length
-same-length c = search needs
-
 returns : tie.Need-returns
 returns c =
     let laid = c .before .before .before .before .before .before in
@@ -90,20 +48,5 @@ pub lay-links-spec : {M : Type 1} → statement M
 lay-links-spec =
     tie.close
     (tie.spec
-    mul-firsts
-    add-firsts
-    mul-firsts-2
-    add-firsts-2
-    add-keys
-    add-keys-2
-    add-starts
-    add-sorted
-    add-sorted-2
-    mul-first-ports
-    sub-first-ports
-    part-first-ports-start
-    part-first-ports-end
-    first-ports-requires
-    links-by-output-requires
-    same-length
-    returns)
+    (search needs) (search needs) (search needs) (search needs) (search needs) (search needs) (search needs) (search needs) (search needs)
+    (search needs) (search needs) (search needs) (search needs) first-ports-requires links-by-output-requires (search needs) returns)

@@ -19,15 +19,6 @@ loop-holds : tie.Need-loop-holds Inv-loop μ-loop
 unfolding extentBelow
 loop-holds c = (search needs, refl)
 
-widened-requires : tie.Need-widened-requires Inv-loop μ-loop
-widened-requires c κs = search needs
-
-add-i : tie.Need-add-i Inv-loop μ-loop
-add-i c = search needs
-
-loop-less : tie.Need-loop-less Inv-loop μ-loop
-loop-less c = search needs
-
 loop-again : tie.Need-loop-again Inv-loop μ-loop
 loop-again c =
     let turn = c .before in
@@ -39,4 +30,5 @@ returns c = extent-all _ _ (c .before .loop .inv .1) (c .before .loop .inv .0) (
 pub marked-extent-spec : {M : Type 1} → statement M
 marked-extent-spec =
     tie.close
-    (tie.spec Inv-loop μ-loop loop-holds widened-requires add-i loop-less loop-again returns)
+    (tie.spec
+    Inv-loop μ-loop loop-holds (λ c κs. search needs) (search needs) (search needs) loop-again returns)

@@ -17,15 +17,6 @@ abbrev μ-loop : tie.MeasureT-loop
 loop-holds : tie.Need-loop-holds Inv-loop μ-loop
 loop-holds c = (search needs, taken-none (c .before .before .pre .1) _)
 
-mul-wide : tie.Need-mul-wide Inv-loop μ-loop
-mul-wide c = search needs
-
-shared-slice-read-wide : tie.Need-shared-slice-read-wide Inv-loop μ-loop
-shared-slice-read-wide c = search needs
-
-wide-requires : tie.Need-wide-requires Inv-loop μ-loop
-wide-requires c κs = search needs
-
 take-node-requires : tie.Need-take-node-requires Inv-loop μ-loop
 take-node-requires c κs =
     let head = c .before .before .before .before in
@@ -42,12 +33,6 @@ returns c =
     let node = c .before .before .before in
     let turn = node .before .before .before .before in
     unknown-taken (turn .before .before .before .before .pre .0) (turn .before .loop .inv .1) (turn .loop-test .taken) (node .before .before .wide .ensures) (node .take-node .ensures) (c .if1 .taken)
-
-add-i : tie.Need-add-i Inv-loop μ-loop
-add-i c = search needs
-
-loop-less : tie.Need-loop-less Inv-loop μ-loop
-loop-less c = search needs
 
 loop-again : tie.Need-loop-again Inv-loop μ-loop
 loop-again c =
@@ -67,17 +52,5 @@ pub take-list-spec : {M : Type 1} → statement M
 take-list-spec =
     tie.close
     (tie.spec
-    Inv-loop
-    μ-loop
-    loop-holds
-    mul-wide
-    shared-slice-read-wide
-    wide-requires
-    take-node-requires
-    same-length
-    returns
-    add-i
-    loop-less
-    loop-again
-    same-length-2
-    returns-2)
+    Inv-loop μ-loop loop-holds (search needs) (search needs) (λ c κs. search needs) take-node-requires same-length returns (search needs)
+    (search needs) loop-again same-length-2 returns-2)

@@ -19,15 +19,6 @@ abbrev μ-loop : tie.MeasureT-loop
 loop-holds : tie.Need-loop-holds Inv-loop μ-loop
 loop-holds c = (search needs, taken-none (c .before .before .pre .1) _)
 
-mul-field-at : tie.Need-mul-field-at Inv-loop μ-loop
-mul-field-at c = search needs
-
-field-at-requires : tie.Need-field-at-requires Inv-loop μ-loop
-field-at-requires c κs = search needs
-
-wide-requires : tie.Need-wide-requires Inv-loop μ-loop
-wide-requires c κs = search needs
-
 take-node-requires : tie.Need-take-node-requires Inv-loop μ-loop
 take-node-requires c κs =
     let head = c .before .before .before .before in
@@ -50,12 +41,6 @@ returns c =
     let entry = byte-entry (start .args .list .now) (turn .before .loop .i) (omega (arith, turn .loop-test .taken)) (node .before .before .before .field-at .ensures) (node .before .before .wide .ensures) in
     unknown-taken (start .pre .0) (turn .before .loop .inv .1) (omega (arith, turn .loop-test .taken, length-wordsFrom (start .args .list .now))) entry
     (node .take-node .ensures) (c .if1 .taken)
-
-add-i : tie.Need-add-i Inv-loop μ-loop
-add-i c = search needs
-
-loop-less : tie.Need-loop-less Inv-loop μ-loop
-loop-less c = search needs
 
 loop-again : tie.Need-loop-again Inv-loop μ-loop
 loop-again c =
@@ -80,17 +65,5 @@ pub take-list-bytes-spec : {M : Type 1} → statement M
 take-list-bytes-spec =
     tie.close
     (tie.spec
-    Inv-loop
-    μ-loop
-    loop-holds
-    mul-field-at
-    field-at-requires
-    wide-requires
-    take-node-requires
-    same-length
-    returns
-    add-i
-    loop-less
-    loop-again
-    same-length-2
-    returns-2)
+    Inv-loop μ-loop loop-holds (search needs) (λ c κs. search needs) (λ c κs. search needs) take-node-requires same-length returns
+    (search needs) (search needs) loop-again same-length-2 returns-2)

@@ -9,15 +9,6 @@ use Rattle.topo_checker.proofs.listing.take_node.Tie as tie
 returns : tie.Need-returns
 returns c = node-unknown _ _ _ _ (omega (arith, c .if1 .taken))
 
-mul-word-at : tie.Need-mul-word-at
-mul-word-at c = search needs
-
-add-word-at : tie.Need-add-word-at
-add-word-at c = search needs
-
-word-at-requires : tie.Need-word-at-requires
-word-at-requires c κs = search needs
-
 add-area : tie.Need-add-area
 add-area c = omega (arith, mark-inside (c .before .before .before .before .pre) (c .before .before .if1 .left) (c .word-at .ensures))
 
@@ -27,9 +18,6 @@ mul-area c = omega (arith, mark-inside (c .before .before .before .before .pre) 
 slice-write-area : tie.Need-slice-write-area
 slice-write-area c = mark-inside (c .before .before .before .before .pre) (c .before .before .if1 .left) (c .word-at .ensures)
 
-same-length : tie.Need-same-length
-same-length c = search needs
-
 returns-2 : tie.Need-returns-2
 returns-2 c = node-marked (c .before .before .before .before .pre) (c .before .before .if1 .left) (c .word-at .ensures)
 
@@ -37,12 +25,4 @@ pub take-node-spec : {M : Type 1} → statement M
 take-node-spec =
     tie.close
     (tie.spec
-    returns
-    mul-word-at
-    add-word-at
-    word-at-requires
-    add-area
-    mul-area
-    slice-write-area
-    same-length
-    returns-2)
+    returns (search needs) (search needs) (λ c κs. search needs) add-area mul-area slice-write-area (search needs) returns-2)

@@ -8,22 +8,10 @@ use Rattle.topo_checker.specs.Listing.{wider}
 use Rattle.topo_checker.proofs.listing.widened.Statement.{statement}
 use Rattle.topo_checker.proofs.listing.widened.Tie as tie
 
-word-at-requires : tie.Need-word-at-requires
-word-at-requires c κs = search needs
-
 returns : tie.Need-returns
 returns c =
     let args = c .before .before .before .args in
     not-wider (args .area .now) (args .marks) (args .i) (args .e) (c .before .word-at .ensures) (c .if1 .taken)
-
-enum-told : tie.Need-enum-told
-enum-told c = search needs
-
-enum-known-e : tie.Need-enum-known-e
-enum-known-e c = search needs
-
-enum-known-e-2 : tie.Need-enum-known-e-2
-enum-known-e-2 c = search needs
 
 returns-2 : tie.Need-returns-2
 returns-2 c =
@@ -50,11 +38,4 @@ pub widened-spec : {M : Type 1} → statement M
 widened-spec =
     tie.close
     (tie.spec
-    word-at-requires
-    returns
-    enum-told
-    enum-known-e
-    enum-known-e-2
-    returns-2
-    returns-3
-    returns-4)
+    (λ c κs. search needs) returns (search needs) (search needs) (search needs) returns-2 returns-3 returns-4)

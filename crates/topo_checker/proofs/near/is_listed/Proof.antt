@@ -11,11 +11,9 @@ returns c = listed-below _ _ _ _ _ (c .if1 .taken)
 returns-2 : tie.Need-returns-2
 returns-2 c = listed-above _ _ _ _ _ (c .before .if1 .left) (c .if2 .taken)
 
-word-at-requires : tie.Need-word-at-requires
-word-at-requires c κs = search needs
-
 returns-3 : tie.Need-returns-3
 returns-3 c = listed-within _ _ _ _ _ (c .before .before .if1 .left) (c .before .if2 .left) (c .word-at .ensures)
 
 pub is-listed-spec : {M : Type 1} → statement M
-is-listed-spec = tie.close (tie.spec returns returns-2 word-at-requires returns-3)
+is-listed-spec = tie.close (tie.spec
+    returns returns-2 (λ c κs. search needs) returns-3)

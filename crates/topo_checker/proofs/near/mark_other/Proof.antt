@@ -11,29 +11,8 @@ returns c = other-below _ _ _ _ _ _ (c .if1 .taken)
 returns-2 : tie.Need-returns-2
 returns-2 c = other-above _ _ _ _ _ _ (c .before .if1 .left) (c .if2 .taken)
 
-word-at-requires : tie.Need-word-at-requires
-word-at-requires c κs = search needs
-
-same-length : tie.Need-same-length
-same-length c = search needs
-
 returns-3 : tie.Need-returns-3
 returns-3 c = other-listed _ _ _ _ _ _ (c .before .before .before .before .if1 .left) (c .before .before .before .if2 .left) (c .before .word-at .ensures) (c .if3 .taken)
-
-add-area : tie.Need-add-area
-add-area c = search needs
-
-add-area-2 : tie.Need-add-area-2
-add-area-2 c = search needs
-
-mul-area : tie.Need-mul-area
-mul-area c = search needs
-
-slice-write-area : tie.Need-slice-write-area
-slice-write-area c = search needs
-
-same-length-2 : tie.Need-same-length-2
-same-length-2 c = search needs
 
 returns-4 : tie.Need-returns-4
 returns-4 c = other-marked _ _ _ _ _ _ (c .before .before .before .before .if1 .left) (c .before .before .before .if2 .left) (c .before .word-at .ensures) (c .if3 .left)
@@ -42,14 +21,5 @@ pub mark-other-spec : {M : Type 1} → statement M
 mark-other-spec =
     tie.close
     (tie.spec
-    returns
-    returns-2
-    word-at-requires
-    same-length
-    returns-3
-    add-area
-    add-area-2
-    mul-area
-    slice-write-area
-    same-length-2
-    returns-4)
+    returns returns-2 (λ c κs. search needs) (search needs) returns-3 (search needs) (search needs) (search needs) (search needs)
+    (search needs) returns-4)

@@ -17,9 +17,6 @@ abbrev μ-loop : tie.MeasureT-loop
 loop-holds : tie.Need-loop-holds Inv-loop μ-loop
 loop-holds c = (search needs, others-none (c .before .before .pre))
 
-add-place-reached : tie.Need-add-place-reached Inv-loop μ-loop
-add-place-reached c = search needs
-
 place-reached-requires : tie.Need-place-reached-requires Inv-loop μ-loop
 place-reached-requires c κs =
     let start = c .before .before .before .before .before in
@@ -29,12 +26,6 @@ mark-other-requires : tie.Need-mark-other-requires Inv-loop μ-loop
 mark-other-requires c κs =
     let turn = c .before .before .before in
     future-fits (turn .before .before .before .before .pre) (turn .before .loop .inv .1 .kept) (turn .loop-test .taken) (c .before .place-reached .ensures)
-
-add-x : tie.Need-add-x Inv-loop μ-loop
-add-x c = search needs
-
-loop-less : tie.Need-loop-less Inv-loop μ-loop
-loop-less c = search needs
 
 loop-again : tie.Need-loop-again Inv-loop μ-loop
 loop-again c =
@@ -54,14 +45,5 @@ pub mark-others-spec : {M : Type 1} → statement M
 mark-others-spec =
     tie.close
     (tie.spec
-    Inv-loop
-    μ-loop
-    loop-holds
-    add-place-reached
-    place-reached-requires
-    mark-other-requires
-    add-x
-    loop-less
-    loop-again
-    same-length
-    returns)
+    Inv-loop μ-loop loop-holds (search needs) place-reached-requires mark-other-requires (search needs) (search needs) loop-again
+    same-length returns)

@@ -21,9 +21,6 @@ abbrev μ-loop : tie.MeasureT-loop
 loop-holds : tie.Need-loop-holds Inv-loop μ-loop
 loop-holds c = (search needs, below-none _)
 
-add-place-reached : tie.Need-add-place-reached Inv-loop μ-loop
-add-place-reached c = search needs
-
 place-reached-requires : tie.Need-place-reached-requires Inv-loop μ-loop
 place-reached-requires c κs = leads (c .before .before .before .before .pre) (c .loop-test .taken)
 
@@ -36,12 +33,6 @@ returns c =
     let start = turn .before .before .before .before in
     sym (any-true _ (start .args .count) (turn .before .loop .x) (turn .loop-test .taken)
     (listed-so (start .pre) (turn .before .loop .x) (start .args .first) (start .args .last) (c .before .before .place-reached .ensures) (c .before .is-listed .ensures) (c .if1 .taken)))
-
-add-x : tie.Need-add-x Inv-loop μ-loop
-add-x c = search needs
-
-loop-less : tie.Need-loop-less Inv-loop μ-loop
-loop-less c = search needs
 
 loop-again : tie.Need-loop-again Inv-loop μ-loop
 loop-again c =
@@ -59,14 +50,5 @@ pub meets-listed-spec : {M : Type 1} → statement M
 meets-listed-spec =
     tie.close
     (tie.spec
-    Inv-loop
-    μ-loop
-    loop-holds
-    add-place-reached
-    place-reached-requires
-    is-listed-requires
-    returns
-    add-x
-    loop-less
-    loop-again
+    Inv-loop μ-loop loop-holds (search needs) place-reached-requires is-listed-requires returns (search needs) (search needs) loop-again
     returns-2)

@@ -10,18 +10,6 @@ use Rattle.topo_checker.specs.Near.{placeReached}
 use Rattle.topo_checker.proofs.near.place_reached.Statement.{statement}
 use Rattle.topo_checker.proofs.near.place_reached.Tie as tie
 
-word-at-requires : tie.Need-word-at-requires
-word-at-requires c κs = search needs
-
-mul-word-at : tie.Need-mul-word-at
-mul-word-at c = search needs
-
-add-word-at : tie.Need-add-word-at
-add-word-at c = search needs
-
-link-to-requires : tie.Need-link-to-requires
-link-to-requires c κs = search needs
-
 word-at-requires-2 : tie.Need-word-at-requires-2
 word-at-requires-2 c κs =
     let start = c .before .before .before .before in
@@ -38,4 +26,5 @@ returns c =
 pub place-reached-spec : {M : Type 1} → statement M
 place-reached-spec =
     tie.close
-    (tie.spec word-at-requires mul-word-at add-word-at link-to-requires word-at-requires-2 returns)
+    (tie.spec
+    (λ c κs. search needs) (search needs) (search needs) (λ c κs. search needs) word-at-requires-2 returns)

@@ -7,39 +7,6 @@ use Rattle.topo_checker.proofs.Neighbours.{known, spanned, rises, reach
 use Rattle.topo_checker.proofs.passing.pass_place.Statement.{statement}
 use Rattle.topo_checker.proofs.passing.pass_place.Tie as tie
 
-mul-firsts : tie.Need-mul-firsts
-mul-firsts c = search needs
-
-add-firsts : tie.Need-add-firsts
-add-firsts c = search needs
-
-mul-firsts-2 : tie.Need-mul-firsts-2
-mul-firsts-2 c = search needs
-
-add-firsts-2 : tie.Need-add-firsts-2
-add-firsts-2 c = search needs
-
-add-starts : tie.Need-add-starts
-add-starts c = search needs
-
-add-starts-2 : tie.Need-add-starts-2
-add-starts-2 c = search needs
-
-add-starts-3 : tie.Need-add-starts-3
-add-starts-3 c = search needs
-
-add-sorted : tie.Need-add-sorted
-add-sorted c = search needs
-
-add-sorted-2 : tie.Need-add-sorted-2
-add-sorted-2 c = search needs
-
-add-marks : tie.Need-add-marks
-add-marks c = search needs
-
-word-at-requires : tie.Need-word-at-requires
-word-at-requires c κs = search needs
-
 links-start-requires : tie.Need-links-start-requires
 links-start-requires c κs =
     let node = c .before in
@@ -65,9 +32,6 @@ sub-count c =
     let start = node .before .before .before .before in
     rises (start .pre .0) (start .pre .1) (node .word-at .ensures) (from .links-start .ensures) (c .links-start2 .ensures)
 
-word-at-requires-2 : tie.Need-word-at-requires-2
-word-at-requires-2 c κs = search needs
-
 mark-others-requires : tie.Need-mark-others-requires
 mark-others-requires c κs =
     let to = c .before .before .before .before in
@@ -75,9 +39,6 @@ mark-others-requires c κs =
     let node = from .before .before in
     let start = node .before .before .before .before in
     reaching (start .pre .0) (start .pre .1) (node .word-at .ensures) (from .links-start .ensures) (to .links-start2 .ensures)
-
-same-length : tie.Need-same-length
-same-length c = search needs
 
 returns : tie.Need-returns
 returns c =
@@ -88,15 +49,6 @@ returns c =
     let start = node .before .before .before .before in
     passed-listed (start .pre .0) (start .pre .1) (node .word-at .ensures) (from .links-start .ensures) (to .links-start2 .ensures) (start .args .first) (start .args .last)
     (listed .before .word-at2 .ensures) (listed .if1 .taken) (c .before .before .mark-others .ensures)
-
-add-word-at : tie.Need-add-word-at
-add-word-at c = search needs
-
-word-at-requires-3 : tie.Need-word-at-requires-3
-word-at-requires-3 c κs = search needs
-
-same-length-2 : tie.Need-same-length-2
-same-length-2 c = search needs
 
 returns-2 : tie.Need-returns-2
 returns-2 c =
@@ -115,9 +67,6 @@ meets-listed-requires c κs =
     let node = from .before .before in
     let start = node .before .before .before .before in
     reaching (start .pre .0) (start .pre .1) (node .word-at .ensures) (from .links-start .ensures) (to .links-start2 .ensures)
-
-same-length-3 : tie.Need-same-length-3
-same-length-3 c = search needs
 
 returns-3 : tie.Need-returns-3
 returns-3 c =
@@ -138,9 +87,6 @@ mark-others-requires-2 c κs =
     let start = node .before .before .before .before in
     reaching (start .pre .0) (start .pre .1) (node .word-at .ensures) (from .links-start .ensures) (to .links-start2 .ensures)
 
-same-length-4 : tie.Need-same-length-4
-same-length-4 c = search needs
-
 returns-4 : tie.Need-returns-4
 returns-4 c =
     let met = c .before .before .before .before in
@@ -157,32 +103,7 @@ pub pass-place-spec : {M : Type 1} → statement M
 pass-place-spec =
     tie.close
     (tie.spec
-    mul-firsts
-    add-firsts
-    mul-firsts-2
-    add-firsts-2
-    add-starts
-    add-starts-2
-    add-starts-3
-    add-sorted
-    add-sorted-2
-    add-marks
-    word-at-requires
-    links-start-requires
-    add-links-start
-    links-start-requires-2
-    sub-count
-    word-at-requires-2
-    mark-others-requires
-    same-length
-    returns
-    add-word-at
-    word-at-requires-3
-    same-length-2
-    returns-2
-    meets-listed-requires
-    same-length-3
-    returns-3
-    mark-others-requires-2
-    same-length-4
-    returns-4)
+    (search needs) (search needs) (search needs) (search needs) (search needs) (search needs) (search needs) (search needs) (search needs)
+    (search needs) (λ c κs. search needs) links-start-requires add-links-start links-start-requires-2 sub-count (λ c κs. search needs)
+    mark-others-requires (search needs) returns (search needs) (λ c κs. search needs) (search needs) returns-2 meets-listed-requires
+    (search needs) returns-3 mark-others-requires-2 (search needs) returns-4)

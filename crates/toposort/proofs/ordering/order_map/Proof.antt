@@ -9,15 +9,6 @@ use Rattle.toposort.proofs.Sizing.{unread, sized-left, passes}
 use Rattle.toposort.proofs.ordering.order_map.Statement.{statement}
 use Rattle.toposort.proofs.ordering.order_map.Tie as tie
 
-read-map-requires : tie.Need-read-map-requires
-read-map-requires c κs = search needs
-
-enum-known-map : tie.Need-enum-known-map
-enum-known-map c = search needs
-
-enum-told : tie.Need-enum-told
-enum-told c = search needs
-
 map-refusal-requires : tie.Need-map-refusal-requires
 map-refusal-requires c κs = map-refused (c .before .before .read-map .result) (c .before .match .keys2)
 
@@ -29,9 +20,6 @@ returns c =
 order-sized-requires : tie.Need-order-sized-requires
 order-sized-requires c κs = read-well _ _ _ _ (ap mapSaid (sym (c .before .before .map .given .1)) ∙ c .before .before .before .before .read-map .ensures)
 
-same-length : tie.Need-same-length
-same-length c = search needs
-
 returns-2 : tie.Need-returns-2
 returns-2 c =
     let said = ap mapSaid (sym (c .before .before .before .before .before .map .given .1)) ∙ c .before .before .before .before .before .before .before .read-map .ensures in
@@ -41,11 +29,4 @@ pub order-map-spec : {M : Type 1} → statement M
 order-map-spec =
     tie.close
     (tie.spec
-    read-map-requires
-    enum-known-map
-    enum-told
-    map-refusal-requires
-    returns
-    order-sized-requires
-    same-length
-    returns-2)
+    (λ c κs. search needs) (search needs) (search needs) map-refusal-requires returns order-sized-requires (search needs) returns-2)

@@ -9,44 +9,14 @@ use Rattle.toposort.proofs.Sizing.{no-room, bad-link, ready-zeroed, sou
 use Rattle.toposort.proofs.ordering.order_sized.Statement.{statement}
 use Rattle.toposort.proofs.ordering.order_sized.Tie as tie
 
-mul-words : tie.Need-mul-words
-mul-words c = search needs
-
-add-words : tie.Need-add-words
-add-words c = search needs
-
-mul-words-2 : tie.Need-mul-words-2
-mul-words-2 c = search needs
-
-add-words-2 : tie.Need-add-words-2
-add-words-2 c = search needs
-
-mul-words-3 : tie.Need-mul-words-3
-mul-words-3 c = search needs
-
-add-words-3 : tie.Need-add-words-3
-add-words-3 c = search needs
-
 returns : tie.Need-returns
 returns c = no-room (c .before .before .before .pre) _ (c .if1 .taken) refl
-
-fill-requires : tie.Need-fill-requires
-fill-requires c κs = search needs
 
 check-links-requires : tie.Need-check-links-requires
 check-links-requires c κs = well-at (c .before .before .before .before .before .before .before .pre)
 
-enum-told : tie.Need-enum-told
-enum-told c = search needs
-
-enum-told-2 : tie.Need-enum-told-2
-enum-told-2 c = search needs
-
 link-refusal-requires : tie.Need-link-refusal-requires
 link-refusal-requires c κs = links-refused (c .before .before .check-links .result) (c .before .match .keys2)
-
-same-length : tie.Need-same-length
-same-length c = search needs
 
 returns-2 : tie.Need-returns-2
 returns-2 c =
@@ -63,9 +33,6 @@ order-sound-requires c κs =
     ready-zeroed (start .pre) _ (search needs) (filled .fill .ensures)
     (ap linksSaid (sym (c .before .enum-told .given .1)) ∙ checked .check-links .ensures)
 
-same-length-2 : tie.Need-same-length-2
-same-length-2 c = search needs
-
 returns-3 : tie.Need-returns-3
 returns-3 c =
     let checked = c .before .before .before .before .before .before in
@@ -79,20 +46,6 @@ pub order-sized-spec : {M : Type 1} → statement M
 order-sized-spec =
     tie.close
     (tie.spec
-    mul-words
-    add-words
-    mul-words-2
-    add-words-2
-    mul-words-3
-    add-words-3
-    returns
-    fill-requires
-    check-links-requires
-    enum-told
-    enum-told-2
-    link-refusal-requires
-    same-length
-    returns-2
-    order-sound-requires
-    same-length-2
+    (search needs) (search needs) (search needs) (search needs) (search needs) (search needs) returns (λ c κs. search needs)
+    check-links-requires (search needs) (search needs) link-refusal-requires (search needs) returns-2 order-sound-requires (search needs)
     returns-3)

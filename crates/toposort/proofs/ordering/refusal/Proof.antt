@@ -11,12 +11,6 @@ use Rattle.toposort.proofs.ordering.refusal.Tie as tie
 same : {r s : Ordered} → r ≡ s → ruling (orderedSaid s) ≡ ruling (orderedSaid r)
 same e = ap (λ (r : Ordered). ruling (orderedSaid r)) (sym e)
 
-enum-known-ordered : tie.Need-enum-known-ordered
-enum-known-ordered c = search needs
-
-enum-told : tie.Need-enum-told
-enum-told c = search needs
-
 never-requires : tie.Need-never-requires
 unfolding ruling
 never-requires c κs = c .before .before .pre (sym (same (c .enum-told .given .1)))
@@ -30,4 +24,5 @@ unfolding ruling
 returns-2 c = same (c .before .ordered .given .1)
 
 pub refusal-spec : {M : Type 1} → statement M
-refusal-spec = tie.close (tie.spec enum-known-ordered enum-told never-requires returns returns-2)
+refusal-spec = tie.close (tie.spec
+    (search needs) (search needs) never-requires returns returns-2)

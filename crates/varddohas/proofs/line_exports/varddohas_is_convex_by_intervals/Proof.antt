@@ -11,33 +11,6 @@ use Rattle.varddohas.proofs.line_exports.varddohas_is_convex_by_interva
 }
 use Rattle.varddohas.proofs.line_exports.varddohas_is_convex_by_intervals.Tie as tie
 
-area-room-requires : tie.Need-area-room-requires
-area-room-requires c κs = search needs
-
-slice-aggregate-read-area : tie.Need-slice-aggregate-read-area
-slice-aggregate-read-area c = search needs
-
-read-area-requires : tie.Need-read-area-requires
-read-area-requires c κs = search needs
-
-sub-is-convex-by-intervals : tie.Need-sub-is-convex-by-intervals
-sub-is-convex-by-intervals c = search needs
-
-part-room-start : tie.Need-part-room-start
-part-room-start c = search needs
-
-part-room-end : tie.Need-part-room-end
-part-room-end c = search needs
-
-is-convex-by-intervals-requires : tie.Need-is-convex-by-intervals-requires
-is-convex-by-intervals-requires c κs = search needs
-
-sub-put-words : tie.Need-sub-put-words
-sub-put-words c = search needs
-
-part-put-words-start : tie.Need-part-put-words-start
-part-put-words-start c = search needs
-
 part-put-words-end : tie.Need-part-put-words-end
 part-put-words-end c =
     let asked = c .before .before in
@@ -48,15 +21,6 @@ part-put-words-end c =
     room-back held
     (λ a. isConvexByIntervals (start .args .map .now) a (wordsFrom (start .args .records .now)) (start .args .many))
     (records-cross _ _ _ _) (asked .is-convex-by-intervals .ensures)
-
-put-words-requires : tie.Need-put-words-requires
-put-words-requires c κs = search needs
-
-tell-line-requires : tie.Need-tell-line-requires
-tell-line-requires c κs = search needs
-
-same-length : tie.Need-same-length
-same-length c = search needs
 
 returns : tie.Need-returns
 returns c =
@@ -75,17 +39,5 @@ pub varddohas-is-convex-by-intervals-spec : {M : Type 1} → statement M
 varddohas-is-convex-by-intervals-spec =
     tie.close
     (tie.spec
-    area-room-requires
-    slice-aggregate-read-area
-    read-area-requires
-    sub-is-convex-by-intervals
-    part-room-start
-    part-room-end
-    is-convex-by-intervals-requires
-    sub-put-words
-    part-put-words-start
-    part-put-words-end
-    put-words-requires
-    tell-line-requires
-    same-length
-    returns)
+    (λ c κs. search needs) (search needs) (λ c κs. search needs) (search needs) (search needs) (search needs) (λ c κs. search needs)
+    (search needs) (search needs) part-put-words-end (λ c κs. search needs) (λ c κs. search needs) (search needs) returns)

@@ -5,30 +5,6 @@ use Rattle.varddohas.proofs.Exported.{held-read, view-exported}
 use Rattle.varddohas.proofs.line_exports.varddohas_view_lines_at_port.Statement.{statement}
 use Rattle.varddohas.proofs.line_exports.varddohas_view_lines_at_port.Tie as tie
 
-area-room-requires : tie.Need-area-room-requires
-area-room-requires c κs = search needs
-
-slice-aggregate-read-area : tie.Need-slice-aggregate-read-area
-slice-aggregate-read-area c = search needs
-
-read-area-requires : tie.Need-read-area-requires
-read-area-requires c κs = search needs
-
-sub-view-at-port : tie.Need-sub-view-at-port
-sub-view-at-port c = search needs
-
-part-view-at-port-start : tie.Need-part-view-at-port-start
-part-view-at-port-start c = search needs
-
-part-view-at-port-end : tie.Need-part-view-at-port-end
-part-view-at-port-end c = search needs
-
-view-at-port-requires : tie.Need-view-at-port-requires
-view-at-port-requires c κs = search needs
-
-tell-port-requires : tie.Need-tell-port-requires
-tell-port-requires c κs = search needs
-
 returns : tie.Need-returns
 returns c =
     let asked = c .before .before .before .before .before in
@@ -40,12 +16,5 @@ pub varddohas-view-lines-at-port-spec : {M : Type 1} → statement M
 varddohas-view-lines-at-port-spec =
     tie.close
     (tie.spec
-    area-room-requires
-    slice-aggregate-read-area
-    read-area-requires
-    sub-view-at-port
-    part-view-at-port-start
-    part-view-at-port-end
-    view-at-port-requires
-    tell-port-requires
-    returns)
+    (λ c κs. search needs) (search needs) (λ c κs. search needs) (search needs) (search needs) (search needs) (λ c κs. search needs)
+    (λ c κs. search needs) returns)

@@ -10,33 +10,6 @@ use Rattle.varddohas.proofs.Promises.{order-ports-kept}
 use Rattle.varddohas.proofs.topo_exports.varddohas_topo_is_convex.Statement.{statement}
 use Rattle.varddohas.proofs.topo_exports.varddohas_topo_is_convex.Tie as tie
 
-area-room-requires : tie.Need-area-room-requires
-area-room-requires c κs = search needs
-
-slice-aggregate-read-area : tie.Need-slice-aggregate-read-area
-slice-aggregate-read-area c = search needs
-
-read-area-requires : tie.Need-read-area-requires
-read-area-requires c κs = search needs
-
-sub-is-convex : tie.Need-sub-is-convex
-sub-is-convex c = search needs
-
-part-room-start : tie.Need-part-room-start
-part-room-start c = search needs
-
-part-room-end : tie.Need-part-room-end
-part-room-end c = search needs
-
-is-convex-requires : tie.Need-is-convex-requires
-is-convex-requires c κs = search needs
-
-sub-put-words : tie.Need-sub-put-words
-sub-put-words c = search needs
-
-part-put-words-start : tie.Need-part-put-words-start
-part-put-words-start c = search needs
-
 part-put-words-end : tie.Need-part-put-words-end
 part-put-words-end c =
     let asked = c .before .before in
@@ -47,15 +20,6 @@ part-put-words-end c =
     room-back held
     (λ a. topoIsConvex (start .args .map .now) a (wordsFrom (start .args .list .now)) (wordsFrom (start .args .inputs .now)) (wordsFrom (start .args .outputs .now)))
     (order-ports-cross _ _ _ _ _) (asked .is-convex .ensures)
-
-put-words-requires : tie.Need-put-words-requires
-put-words-requires c κs = search needs
-
-tell-order-requires : tie.Need-tell-order-requires
-tell-order-requires c κs = search needs
-
-same-length : tie.Need-same-length
-same-length c = search needs
 
 returns : tie.Need-returns
 returns c =
@@ -77,17 +41,5 @@ pub varddohas-topo-is-convex-spec : {M : Type 1} → statement M
 varddohas-topo-is-convex-spec =
     tie.close
     (tie.spec
-    area-room-requires
-    slice-aggregate-read-area
-    read-area-requires
-    sub-is-convex
-    part-room-start
-    part-room-end
-    is-convex-requires
-    sub-put-words
-    part-put-words-start
-    part-put-words-end
-    put-words-requires
-    tell-order-requires
-    same-length
-    returns)
+    (λ c κs. search needs) (search needs) (λ c κs. search needs) (search needs) (search needs) (search needs) (λ c κs. search needs)
+    (search needs) (search needs) part-put-words-end (λ c κs. search needs) (λ c κs. search needs) (search needs) returns)

@@ -32,12 +32,6 @@ mul-wide-2 c = omega arith
 shared-slice-read-wide : tie.Need-shared-slice-read-wide Inv-loop μ-loop
 shared-slice-read-wide c = omega arith
 
-wide-requires : tie.Need-wide-requires Inv-loop μ-loop
-wide-requires c κs = search needs
-
-larger-requires : tie.Need-larger-requires Inv-loop μ-loop
-larger-requires c κs = search needs
-
 add-i : tie.Need-add-i Inv-loop μ-loop
 add-i c = omega arith
 
@@ -57,16 +51,5 @@ pub largest-lowest-spec : {M : Type 1} → statement M
 largest-lowest-spec =
     tie.close
     (tie.spec
-    Inv-loop
-    μ-loop
-    loop-holds
-    mul-wide
-    add-wide
-    mul-wide-2
-    shared-slice-read-wide
-    wide-requires
-    larger-requires
-    add-i
-    loop-less
-    loop-again
-    returns)
+    Inv-loop μ-loop loop-holds mul-wide add-wide mul-wide-2 shared-slice-read-wide (λ c κs. search needs) (λ c κs. search needs) add-i
+    loop-less loop-again returns)

@@ -51,9 +51,6 @@ mul-wide-2 c = omega arith
 shared-slice-read-wide : tie.Need-shared-slice-read-wide Inv-loop μ-loop
 shared-slice-read-wide c = omega arith
 
-wide-requires : tie.Need-wide-requires Inv-loop μ-loop
-wide-requires c κs = search needs
-
 add-area-2 : tie.Need-add-area-2 Inv-loop μ-loop
 add-area-2 c = omega (arith, inside c, bytes (c .before .before .before .before))
 
@@ -85,22 +82,5 @@ pub lay-lows-spec : {M : Type 1} → statement M
 lay-lows-spec =
     tie.close
     (tie.spec
-    Inv-loop
-    μ-loop
-    loop-holds
-    mul-area
-    add-area
-    mul-area-2
-    shared-slice-read-area
-    mul-wide
-    mul-wide-2
-    shared-slice-read-wide
-    wide-requires
-    add-area-2
-    mul-area-3
-    slice-write-area
-    add-i
-    loop-less
-    loop-again
-    same-length
-    returns)
+    Inv-loop μ-loop loop-holds mul-area add-area mul-area-2 shared-slice-read-area mul-wide mul-wide-2 shared-slice-read-wide
+    (λ c κs. search needs) add-area-2 mul-area-3 slice-write-area add-i loop-less loop-again same-length returns)

@@ -39,14 +39,8 @@ word-at-requires c κs = c .before .before .pre .position
 loop-holds : tie.Need-loop-holds Inv-loop μ-loop
 loop-holds c = (omega arith, λ k h. absurd (omega arith))
 
-mul-wide : tie.Need-mul-wide Inv-loop μ-loop
-mul-wide c = search needs
-
 shared-slice-read-wide : tie.Need-shared-slice-read-wide Inv-loop μ-loop
 shared-slice-read-wide c = omega arith
-
-wide-requires : tie.Need-wide-requires Inv-loop μ-loop
-wide-requires c κs = search needs
 
 word-at-requires-2 : tie.Need-word-at-requires-2 Inv-loop μ-loop
 word-at-requires-2 c κs = line-inside (c .before .before .before .before .before .before .before .args .area .now) (c .before .before .before .before .before .before .before .args .n) (c .before .before .before .before .before .before .before .args .lows) (c .before .before .before .before .before .before .before .args .v) (c .before .before .before .before .before .entries .ensures) (c .before .before .before .before .word-at .ensures) (c .before .before .before .before .before .before .before .pre) (c .before .before .before .loop .i) (c .before .before .loop-test .taken) (c .wide .ensures)
@@ -74,22 +68,5 @@ pub stands-below-spec : {M : Type 1} → statement M
 stands-below-spec =
     tie.close
     (tie.spec
-    Inv-loop
-    μ-loop
-    mul-entries
-    add-entries
-    mul-entries-2
-    add-entries-2
-    entries-requires
-    add-word-at
-    word-at-requires
-    loop-holds
-    mul-wide
-    shared-slice-read-wide
-    wide-requires
-    word-at-requires-2
-    returns
-    add-i
-    loop-less
-    loop-again
-    returns-2)
+    Inv-loop μ-loop mul-entries add-entries mul-entries-2 add-entries-2 entries-requires add-word-at word-at-requires loop-holds
+    (search needs) shared-slice-read-wide (λ c κs. search needs) word-at-requires-2 returns add-i loop-less loop-again returns-2)

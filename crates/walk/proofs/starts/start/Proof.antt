@@ -22,24 +22,6 @@ abbrev μ-loop : tie.MeasureT-loop
 inside : (s : tie.In-loop Inv-loop μ-loop) → 3 * s .before .loop .i + 2 < length (s .before .before .before .before .before .before .before .before .before .args .records .now)
 inside s = omega (arith, s .loop-test .taken, s .before .before .before .before .before .before .before .before .before .pre .1 .fits)
 
-lay-requires : tie.Need-lay-requires Inv-loop μ-loop
-lay-requires c κs = search needs
-
-mul-queue : tie.Need-mul-queue Inv-loop μ-loop
-mul-queue c = search needs
-
-add-queue : tie.Need-add-queue Inv-loop μ-loop
-add-queue c = search needs
-
-mul-queue-2 : tie.Need-mul-queue-2 Inv-loop μ-loop
-mul-queue-2 c = search needs
-
-add-queue-2 : tie.Need-add-queue-2 Inv-loop μ-loop
-add-queue-2 c = search needs
-
-add-queue-3 : tie.Need-add-queue-3 Inv-loop μ-loop
-add-queue-3 c = search needs
-
 loop-holds : tie.Need-loop-holds Inv-loop μ-loop
 loop-holds c = (omega arith, starts-none (c .before .before .lay .ensures .laid) (c .before .before .lay .ensures .queued))
 
@@ -52,9 +34,6 @@ mul-wide-2 c = omega (arith, inside c, c .before .before .before .before .before
 shared-slice-read-wide : tie.Need-shared-slice-read-wide Inv-loop μ-loop
 shared-slice-read-wide c = omega (arith, inside (c .before))
 
-wide-requires : tie.Need-wide-requires Inv-loop μ-loop
-wide-requires c κs = search needs
-
 mul-wide-3 : tie.Need-mul-wide-3 Inv-loop μ-loop
 mul-wide-3 c = omega (arith, inside (c .before .before), c .before .before .before .before .before .before .before .before .before .before .before .good)
 
@@ -66,9 +45,6 @@ mul-wide-4 c = omega (arith, inside (c .before .before), c .before .before .befo
 
 shared-slice-read-wide-2 : tie.Need-shared-slice-read-wide-2 Inv-loop μ-loop
 shared-slice-read-wide-2 c = omega (arith, inside (c .before .before .before))
-
-wide-requires-2 : tie.Need-wide-requires-2 Inv-loop μ-loop
-wide-requires-2 c κs = search needs
 
 start-on-requires : tie.Need-start-on-requires Inv-loop μ-loop
 start-on-requires c κs = starting (c .before .before .before .before .before .before .before .before .before .lay .ensures .laid) (c .before .before .before .before .before .before .loop .inv .1 .kept) (c .before .before .before .before .before .before .loop .i) (c .before .before .before .before .before .loop-test .taken) (c .before .before .before .wide .ensures) (c .before .wide2 .ensures) (c .before .before .before .before .before .before .loop .inv .1 .queued)
@@ -95,27 +71,6 @@ pub start-spec : {M : Type 1} → statement M
 start-spec =
     tie.close
     (tie.spec
-    Inv-loop
-    μ-loop
-    lay-requires
-    mul-queue
-    add-queue
-    mul-queue-2
-    add-queue-2
-    add-queue-3
-    loop-holds
-    mul-wide
-    mul-wide-2
-    shared-slice-read-wide
-    wide-requires
-    mul-wide-3
-    add-wide
-    mul-wide-4
-    shared-slice-read-wide-2
-    wide-requires-2
-    start-on-requires
-    add-i
-    loop-less
-    loop-again
-    same-length
-    returns)
+    Inv-loop μ-loop (λ c κs. search needs) (search needs) (search needs) (search needs) (search needs) (search needs) loop-holds mul-wide
+    mul-wide-2 shared-slice-read-wide (λ c κs. search needs) mul-wide-3 add-wide mul-wide-4 shared-slice-read-wide-2 (λ c κs. search needs)
+    start-on-requires add-i loop-less loop-again same-length returns)

@@ -31,9 +31,6 @@ loop-holds c = (omega arith, c .before .before .before .before .pre .queued, wit
 turn-requires : tie.Need-turn-requires Inv-loop μ-loop
 turn-requires c κs = turning (c .before .before .before .before .before .before .before .pre) (c .before .before .loop .t) (c .before .before .loop .inv .2) (c .before .before .loop .inv .1) (c .before .before .loop .inv .3) (c .before .loop-test .taken) (c .before .before .loop .inv .0)
 
-enum-known-step : tie.Need-enum-known-step Inv-loop μ-loop
-enum-known-step c = search needs
-
 same-length : tie.Need-same-length Inv-loop μ-loop
 same-length c = c .before .before .before .before .before .turn .ensures .kept .long ∙ c .before .before .before .before .before .before .before .before .loop .inv .2 .long
 
@@ -41,9 +38,6 @@ returns : tie.Need-returns Inv-loop μ-loop
 returns c =
     ended-no (c .before .before .before .before .before .before .before .before .before .before .before .before .before .pre) (c .before .before .before .before .before .before .before .before .loop .t) (c .before .before .before .before .before .before .before .before .loop .inv .2) (c .before .before .before .before .before .before .before .before .loop .inv .1) (c .before .before .before .before .before .before .before .before .loop .inv .3) (c .before .before .before .before .before .before .before .loop-test .taken)
     (c .before .before .before .before .before .before .before .before .before .largest-lowest .ensures) (c .before .before .before .before .before .before .before .before .loop .inv .0) (c .before .before .before .before .before .turn .ensures) (c .before .step .given .1)
-
-enum-known-step-2 : tie.Need-enum-known-step-2 Inv-loop μ-loop
-enum-known-step-2 c = search needs
 
 add-t : tie.Need-add-t Inv-loop μ-loop
 add-t c = omega (arith, c .before .before .before .before .before .before .before .loop-test .taken, c .before .before .before .before .before .before .before .before .loop .inv .1 .few, c .before .before .before .before .before .before .before .before .loop .inv .1 .small)
@@ -66,17 +60,5 @@ pub turns-spec : {M : Type 1} → statement M
 turns-spec =
     tie.close
     (tie.spec
-    Inv-loop
-    μ-loop
-    largest-lowest-requires
-    loop-holds
-    turn-requires
-    enum-known-step
-    same-length
-    returns
-    enum-known-step-2
-    add-t
-    loop-less
-    loop-again
-    same-length-2
-    returns-2)
+    Inv-loop μ-loop largest-lowest-requires loop-holds turn-requires (search needs) same-length returns (search needs) add-t loop-less
+    loop-again same-length-2 returns-2)

@@ -7,21 +7,6 @@ use Rattle.paper.specs.Map.{word}
 use Rattle.words.proofs.field.field_at.Statement.{statement}
 use Rattle.words.proofs.field.field_at.Tie as tie
 
-shared-slice-read-wide-byte : tie.Need-shared-slice-read-wide-byte
-shared-slice-read-wide-byte c = search needs
-
-wide-byte-requires : tie.Need-wide-byte-requires
-wide-byte-requires c κs = search needs
-
-add-wide-byte : tie.Need-add-wide-byte
-add-wide-byte c = search needs
-
-shared-slice-read-wide-byte-2 : tie.Need-shared-slice-read-wide-byte-2
-shared-slice-read-wide-byte-2 c = search needs
-
-wide-byte-requires-2 : tie.Need-wide-byte-requires-2
-wide-byte-requires-2 c κs = search needs
-
 mul-result : tie.Need-mul-result
 mul-result c =
     let at = c .before .before .before .before .before .args .at in
@@ -40,11 +25,4 @@ pub field-at-spec : {M : Type 1} → statement M
 field-at-spec =
     tie.close
     (tie.spec
-    shared-slice-read-wide-byte
-    wide-byte-requires
-    add-wide-byte
-    shared-slice-read-wide-byte-2
-    wide-byte-requires-2
-    mul-result
-    add-result
-    returns)
+    (search needs) (λ c κs. search needs) (search needs) (search needs) (λ c κs. search needs) mul-result add-result returns)

@@ -21,30 +21,6 @@ abbrev μ-loop : tie.MeasureT-loop
 loop-holds : tie.Need-loop-holds Inv-loop μ-loop
 loop-holds c = (search needs, refl, refl)
 
-add-area : tie.Need-add-area Inv-loop μ-loop
-add-area c = search needs
-
-mul-area : tie.Need-mul-area Inv-loop μ-loop
-mul-area c = search needs
-
-slice-read-area : tie.Need-slice-read-area Inv-loop μ-loop
-slice-read-area c = search needs
-
-add-area-2 : tie.Need-add-area-2 Inv-loop μ-loop
-add-area-2 c = search needs
-
-mul-area-2 : tie.Need-mul-area-2 Inv-loop μ-loop
-mul-area-2 c = search needs
-
-slice-write-area : tie.Need-slice-write-area Inv-loop μ-loop
-slice-write-area c = search needs
-
-add-copied : tie.Need-add-copied Inv-loop μ-loop
-add-copied c = search needs
-
-loop-less : tie.Need-loop-less Inv-loop μ-loop
-loop-less c = search needs
-
 loop-again : tie.Need-loop-again Inv-loop μ-loop
 loop-again c =
     let at-test = c .before in
@@ -55,9 +31,6 @@ loop-again c =
       copy-again _ _ _ _ (pre .0) (pre .2) _ (at-test .loop-test .taken) (at-loop .loop .inv .2),
     )
 
-same-length : tie.Need-same-length Inv-loop μ-loop
-same-length c = search needs
-
 returns : tie.Need-returns Inv-loop μ-loop
 returns c =
     let all : c .before .before .args .n ≡ c .before .loop .copied = omega arith in
@@ -67,17 +40,5 @@ pub copy-spec : {M : Type 1} → statement M
 copy-spec =
     tie.close
     (tie.spec
-    Inv-loop
-    μ-loop
-    loop-holds
-    add-area
-    mul-area
-    slice-read-area
-    add-area-2
-    mul-area-2
-    slice-write-area
-    add-copied
-    loop-less
-    loop-again
-    same-length
-    returns)
+    Inv-loop μ-loop loop-holds (search needs) (search needs) (search needs) (search needs) (search needs) (search needs) (search needs)
+    (search needs) loop-again (search needs) returns)

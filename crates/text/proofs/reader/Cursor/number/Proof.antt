@@ -10,9 +10,6 @@ use Rattle.text.proofs.Split.{part-starts, part-within}
 use Rattle.text.proofs.reader.Cursor.number.Statement.{statement}
 use Rattle.text.proofs.reader.Cursor.number.Tie as tie
 
-part-end-requires : tie.Need-part-end-requires
-part-end-requires c κs = search needs
-
 sub-read-number : tie.Need-sub-read-number
 sub-read-number c =
     let start = c .before .before in
@@ -27,15 +24,6 @@ part-read-number-end : tie.Need-part-read-number-end
 part-read-number-end c =
     let start = c .before .before in
     omega (arith, part-within space (start .args .line .now) (start .args .self .at) (start .pre), c .part-end .ensures)
-
-read-number-requires : tie.Need-read-number-requires
-read-number-requires c κs = search needs
-
-enum-known-reading : tie.Need-enum-known-reading
-enum-known-reading c = search needs
-
-enum-told : tie.Need-enum-told
-enum-told c = search needs
 
 returns : tie.Need-returns
 returns c =
@@ -59,13 +47,5 @@ pub number-spec : {M : Type 1} → statement M
 number-spec =
     tie.close
     (tie.spec
-    part-end-requires
-    sub-read-number
-    part-read-number-start
-    part-read-number-end
-    read-number-requires
-    enum-known-reading
-    enum-told
-    returns
-    add-t8
-    returns-2)
+    (λ c κs. search needs) sub-read-number part-read-number-start part-read-number-end (λ c κs. search needs) (search needs) (search needs)
+    returns add-t8 returns-2)
