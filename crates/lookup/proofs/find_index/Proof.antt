@@ -48,4 +48,4 @@ find-index-spec =
     tie.close
     (tie.spec
     returns (search needs) (λ c κs. search needs) (λ c κs. search needs) returns-2 returns-3 returns-4 returns-5 find-between-requires
-    (search needs))
+    (λ c. search needs))

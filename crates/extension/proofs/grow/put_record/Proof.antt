@@ -19,4 +19,4 @@ put-record-spec =
     tie.close
     (tie.spec
     (search needs) (search needs) (search needs) (search needs) (search needs) (search needs) (search needs) (search needs)
-    slice-write-room-2 (search needs) (search needs) (search needs) (search needs) (search needs) (search needs) returns)
+    slice-write-room-2 (search needs) (search needs) (search needs) (search needs) (λ c. search needs) (search needs) returns)

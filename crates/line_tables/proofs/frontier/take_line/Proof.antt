@@ -37,4 +37,4 @@ take-line-spec =
     (search needs) (search needs) (search needs) (search needs) (search needs) (search needs) (search needs) (search needs) (search needs)
     (search needs) (search needs) (search needs) (search needs) (search needs) (search needs) (search needs) (search needs) (search needs)
     (search needs) (search needs) (λ c κs. search needs) (λ c κs. search needs) (search needs) (λ c κs. search needs) add-met-2 mul-met
-    slice-read-met pop-frontier-requires (search needs) (search needs) above-requires (search needs) returns)
+    slice-read-met pop-frontier-requires (search needs) (search needs) above-requires (λ c. search needs) returns)

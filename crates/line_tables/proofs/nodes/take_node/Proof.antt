@@ -87,4 +87,4 @@ take-node-spec =
     (tie.spec
     (search needs) (search needs) (search needs) (search needs) (search needs) (search needs) (search needs) (search needs) (search needs)
     (λ c κs. search needs) links-start-requires add-links-start links-start-requires-2 sub-incoming list-start-requires take-lines-requires
-    (search needs) add-area-2 mul-area slice-write-area (search needs) returns)
+    (search needs) add-area-2 mul-area slice-write-area (λ c. search needs) returns)
