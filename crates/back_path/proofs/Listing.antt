@@ -21,8 +21,8 @@ use Rattle.convexity_theory.proofs.Memberships.{in-mem, times-distinct}
 use Rattle.path_theory.proofs.levels.Levels.{SmallestEnd}
 use Rattle.path_theory.proofs.levels.Bounds.{closes-at, path-length}
 use Rattle.walk_theory.specs.Joined.{Joined}
-use Rattle.tables.specs.Answered.{AnsweredInto}
-use Rattle.tables.specs.Usable.{Usable, Scratched, scratchAt, scratchSize}
+use Rattle.tables.specs.AnsweredBy.{AnsweredInto}
+use Rattle.tables.specs.UsableBy.{Usable, Scratched, scratchAt, scratchSize}
 use Rattle.tables.proofs.Within.{within-both, within-wider}
 use Rattle.take_in.proofs.Answers.{AllNodes}
 use Rattle.take_in.proofs.Passing.{known-below}

@@ -15,8 +15,8 @@ ghost use Rattle.paper.specs.Path.{backPath, shownOf, stepsOf};
 ghost use Rattle.paper.specs.Refusals.{rule11};
 ghost use Rattle.intervals.specs.Answer.{listIn};
 ghost use Rattle.intervals.specs.Holds.{Listed};
-ghost use Rattle.tables.specs.Answered.{AnsweredInto};
-ghost use Rattle.tables.specs.Usable.{Usable, scratchAt};
+ghost use Rattle.tables.specs.AnsweredBy.{AnsweredInto};
+ghost use Rattle.tables.specs.UsableBy.{Usable, scratchAt};
 ghost use Rattle.back_path.specs.Said.{pathSaid};
 
 // What showing the path answers: how many steps it has, which stand in the buffer; that there is none; or a refusal.

@@ -8,7 +8,7 @@ use Rattle.paper.specs.Refusals.{Ruling, Answer, decide, onRefusal}
 use Rattle.paper.specs.Calls.{LeftWith}
 use Rattle.paper.specs.Words.{wordsFrom, putWords}
 use Rattle.words.proofs.RoundTrip.{Below, read-and-put}
-use Rattle.tables.specs.Answered.{AnsweredInto, AnsweredBytes}
+use Rattle.tables.specs.AnsweredBy.{AnsweredInto, AnsweredBytes}
 use Rattle.byte_calls.specs.Buffered.{buffered}
 
 module _ {A : Type 0} {said : Answer A} where

@@ -19,7 +19,7 @@ use Rattle.intervals.specs.Answer.{listIn}
 use Rattle.intervals.specs.Holds.{Listed}
 use Rattle.intervals.proofs.Cleared.{listing}
 use Rattle.refusals.proofs.Rulings.{no-refusal}
-use Rattle.tables.specs.Usable.{Usable, scratchAt}
+use Rattle.tables.specs.UsableBy.{Usable, scratchAt}
 
 one-a-line : (b a list : List ℕ) → needed (intervals b a list) ≤ length (touched b a list)
 unfolding intervals needed

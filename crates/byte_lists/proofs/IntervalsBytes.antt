@@ -19,8 +19,8 @@ use Rattle.words.proofs.Turns.{length-wordsFrom}
 use Rattle.take_in.proofs.Answers.{AllNodes}
 use Rattle.intervals.specs.Answer.{listIn}
 use Rattle.intervals.specs.Holds.{Listed}
-use Rattle.tables.specs.Answered.{AnsweredInto, AnsweredBytes}
-use Rattle.tables.specs.Usable.{Usable, Scratched, scratchAt}
+use Rattle.tables.specs.AnsweredBy.{AnsweredInto, AnsweredBytes}
+use Rattle.tables.specs.UsableBy.{Usable, Scratched, scratchAt}
 use Rattle.line_checker.specs.Said.{intervalsSaid}
 use Rattle.line_checker.specs.declared.list_intervals.IntervalsAnswer.{IntervalsAnswer}
 use Rattle.line_checker.specs.declared.list_intervals.IntervalsAnswer.the-variants.{Records as Made}

@@ -11,7 +11,7 @@ use Rattle.paper.specs.Refusals.{Ruling, passed, refusal, Answer, refused, answ
 use Rattle.paper.specs.Words.{wordsFrom, putWords}
 use Rattle.words.proofs.RoundTrip.{Below, read-and-put}
 use Rattle.words.proofs.Buffers.{put-result}
-use Rattle.tables.specs.Answered.{AnsweredInto, AnsweredBytes}
+use Rattle.tables.specs.AnsweredBy.{AnsweredInto, AnsweredBytes}
 
 module _ {A : Type 0} {n l p : ℕ} {a m : List ℕ} {x : Answer A} {rules : List Ruling} {y : A} {bytes result : List ℕ} where
   -- what stands in the buffer's words is put back

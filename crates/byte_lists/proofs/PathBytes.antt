@@ -20,8 +20,8 @@ use Rattle.intervals.specs.Answer.{listIn}
 use Rattle.intervals.specs.Holds.{Listed}
 use Rattle.intervals.proofs.Cleared.{listing}
 use Rattle.intervals.proofs.Taken.{list-into}
-use Rattle.tables.specs.Answered.{AnsweredInto, AnsweredBytes}
-use Rattle.tables.specs.Usable.{Usable, Scratched, scratchAt}
+use Rattle.tables.specs.AnsweredBy.{AnsweredInto, AnsweredBytes}
+use Rattle.tables.specs.UsableBy.{Usable, Scratched, scratchAt}
 use Rattle.back_path.specs.Said.{pathSaid}
 use Rattle.back_path.specs.declared.showing.PathAnswer.{PathAnswer}
 use Rattle.back_path.specs.declared.showing.PathAnswer.the-variants.{Path as Shows}

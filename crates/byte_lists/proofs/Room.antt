@@ -9,7 +9,7 @@ use lib.Seq.{take-append-le}
 use Rattle.paper.specs.Refusals.{Ruling, passed, Answer, answer, decide}
 use Rattle.paper.specs.Words.{putWords}
 use Rattle.words.proofs.RoundTrip.{Below}
-use Rattle.tables.specs.Answered.{AnsweredInto, AnsweredBytes}
+use Rattle.tables.specs.AnsweredBy.{AnsweredInto, AnsweredBytes}
 use Rattle.byte_lists.proofs.IntoBytes.{says-so, none-to-bytes, room-stands, some-to-bytes}
 
 -- the rules decide by the room, `own`, as they do by the bytes, and where they pass there is room for the result in both

@@ -24,11 +24,11 @@ use Rattle.refusals.specs.declared.Refusal.the-variants.{BadRecord}
 use Rattle.records.specs.Tested.{Tested}
 use Rattle.records.specs.declared.Checked.the-variants.{Refused}
 use Rattle.records.proofs.Testing.{beyond}
-use Rattle.tables.specs.Answered.{Answered}
-use Rattle.tables.specs.Usable.{Usable}
+use Rattle.tables.specs.AnsweredBy.{Answered}
+use Rattle.tables.specs.UsableBy.{Usable}
 use Rattle.tables.proofs.Within.{within-none}
-use Rattle.tables.proofs.Words.{count-few}
-use Rattle.tables.proofs.Usable.{tables-still}
+use Rattle.tables.proofs.WordsBy.{count-few}
+use Rattle.tables.proofs.UsableBy.{tables-still}
 use Rattle.words.proofs.Turns.{length-wordsFrom}
 use Rattle.line_checker.proofs.RecordCalls.{some-given}
 use Rattle.byte_records.proofs.Enough.{FirstRecords, rule12-enough, records-enough}

@@ -12,7 +12,7 @@ use Rattle.paper.specs.Refusals.{Ruling, passed, refusal, Answer, answer, answe
 use Rattle.paper.specs.Words.{wordsFrom, putWords}
 use Rattle.accepted_theory.proofs.Alike.{Alike, same-answer, same-kept}
 use Rattle.refusals.proofs.Rulings.{no-refusal}
-use Rattle.tables.specs.Answered.{AnsweredInto, AnsweredBytes}
+use Rattle.tables.specs.AnsweredBy.{AnsweredInto, AnsweredBytes}
 use Rattle.words.proofs.RoundTrip.{Below, read-and-put}
 use Rattle.words.proofs.Buffers.{put-result}
 use Rattle.intervals.proofs.Into.{too-long}

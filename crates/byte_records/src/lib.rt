@@ -11,8 +11,8 @@ ghost use Rattle.paper.specs.Refusals.{rule8, rule9, rule11, rule12, rule13, wh
 ghost use Rattle.paper.specs.Walk.{walk};
 ghost use Rattle.paper.specs.Words.{wordsFrom};
 ghost use Rattle.line_checker.specs.Said.{extendSaid, lineSaid, nodesSaid};
-ghost use Rattle.tables.specs.Answered.{Answered, AnsweredBytes};
-ghost use Rattle.tables.specs.Usable.{Usable};
+ghost use Rattle.tables.specs.AnsweredBy.{Answered, AnsweredBytes};
+ghost use Rattle.tables.specs.UsableBy.{Usable};
 use line_checker::extend::ExtendAnswer;
 use line_checker::extend::extend_records;
 use line_checker::line_check::LineAnswer;

@@ -32,10 +32,10 @@ use Rattle.opening.specs.Opened.{HasScratch, OpenLeft, openedSaid, scratchZeroe
 use Rattle.opening.specs.declared.Opened.{Opened}
 use Rattle.opening.specs.declared.Opened.the-variants.{Ready, Refused}
 use Rattle.opening.proofs.Opened.{the-type}
-use Rattle.tables.specs.Answered.{Answered, AnsweredInto}
-use Rattle.tables.specs.Usable.{Usable, Scratched, scratchAt, scratchSize}
+use Rattle.tables.specs.AnsweredBy.{Answered, AnsweredInto}
+use Rattle.tables.specs.UsableBy.{Usable, Scratched, scratchAt, scratchSize}
 use Rattle.tables.proofs.Within.{within-none, within-both, within-sets, within-filled}
-use Rattle.tables.proofs.Usable.{in-use-still, still-usable, roomy as wordy}
+use Rattle.tables.proofs.UsableBy.{in-use-still, still-usable, roomy as wordy}
 
 -- an opening that is not ready is a refusal
 pub is-refusal : (o : Opened) → OneOf (1 ∷ []) (tagOf the-type o) → ruling (openedSaid o) ≢ passed

@@ -42,8 +42,8 @@ use Rattle.opening.specs.Opened.{OpenLeft, openedSaid, scratchZeroed}
 use Rattle.opening.specs.declared.Opened.{Opened}
 use Rattle.opening.specs.declared.Opened.the-variants.{Ready}
 use Rattle.refusals.proofs.Rulings.{then-decides}
-use Rattle.tables.specs.Answered.{Answered, AnsweredInto}
-use Rattle.tables.specs.Usable.{Usable}
+use Rattle.tables.specs.AnsweredBy.{Answered, AnsweredInto}
+use Rattle.tables.specs.UsableBy.{Usable}
 use Rattle.convex.proofs.Calling.{
   refuses,
   refused-call,

@@ -14,7 +14,7 @@ use Rattle.refusals.specs.declared.Refusal.{Refusal}
 use Rattle.opening.specs.Opened.{OpenLeft, openedSaid, scratchZeroed}
 use Rattle.opening.specs.declared.Opened.{Opened}
 use Rattle.opening.specs.declared.Opened.the-variants.{Ready}
-use Rattle.tables.specs.Answered.{AnsweredInto}
+use Rattle.tables.specs.AnsweredBy.{AnsweredInto}
 use Rattle.path_theory.proofs.Promise.{path-promise}
 use Rattle.convex.proofs.Calling.{refused-into, answered-into, same-outcomes-so}
 

@@ -17,7 +17,7 @@ use Rattle.refusals.specs.declared.Refusal.{Refusal}
 use Rattle.opening.specs.Opened.{OpenLeft, openedSaid, scratchZeroed}
 use Rattle.opening.specs.declared.Opened.{Opened}
 use Rattle.opening.specs.declared.Opened.the-variants.{Ready}
-use Rattle.tables.specs.Answered.{Answered}
+use Rattle.tables.specs.AnsweredBy.{Answered}
 use Rattle.convex.proofs.Calling.{refused-call, answered-call, same-outcomes-so}
 
 module _ {b a : List ℕ} {o : Opened} {m : List ℕ} (known : OpenLeft b a o m) where

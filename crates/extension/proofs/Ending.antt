@@ -19,9 +19,9 @@ use Rattle.paper.specs.Intervals.{Interval, Records, records, apart}
 use Rattle.paper.specs.Records.{recordAt, recordsIn, extend, extendLines}
 use Rattle.paper.specs.Refusals.{onLine}
 use Rattle.paper.specs.Calls.{wrote, said, wordsOf}
-use Rattle.tables.specs.Usable.{Usable, positionsAt, nodeStartsAt, linesAt, entriesOf}
+use Rattle.tables.specs.UsableBy.{Usable, positionsAt, nodeStartsAt, linesAt, entriesOf}
 use Rattle.tables.specs.Recorded.{Recorded, Unmarked, Marked, Slotted}
-use Rattle.tables.proofs.Words.{count-few, position-is, lines-are, line-known}
+use Rattle.tables.proofs.WordsBy.{count-few, position-is, lines-are, line-known}
 use Rattle.records.specs.Slots.{slotsAt, marksAt}
 use Rattle.records.proofs.Reasons.{is-good, same-record, few-records}
 use Rattle.extension.specs.declared.Extended.{Extended}

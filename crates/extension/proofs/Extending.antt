@@ -16,9 +16,9 @@ use Rattle.paper.specs.Area.{K}
 use Rattle.paper.specs.Intervals.{Interval, records, apart}
 use Rattle.paper.specs.Records.{recordAt, recordsIn, along}
 use Rattle.paper.specs.Refusals.{onLine}
-use Rattle.tables.specs.Usable.{Usable}
+use Rattle.tables.specs.UsableBy.{Usable}
 use Rattle.tables.specs.Recorded.{Unmarked, Marked}
-use Rattle.tables.proofs.Words.{count-few}
+use Rattle.tables.proofs.WordsBy.{count-few}
 use Rattle.lookup.specs.Line.{Line, positionsOn}
 use Rattle.on_line.specs.Along.{nodesAlong, positionsAlong}
 use Rattle.on_line.proofs.Along.{handed, along-is, line-at}

@@ -11,7 +11,7 @@ use lib.Seq.{drop-cons}
 use Rattle.paper.specs.Intervals.{Records, records}
 use Rattle.paper.specs.Records.{recordsIn, extendLine, extendLines}
 use Rattle.paper.specs.Refusals.{onLine}
-use Rattle.tables.specs.Usable.{Usable}
+use Rattle.tables.specs.UsableBy.{Usable}
 use Rattle.extension.specs.declared.Extended.{Extended}
 use Rattle.extension.specs.declared.Extended.the-variants.{Records as Made, NotExtendable}
 use Rattle.extension.specs.Extended.{recordsLeft}

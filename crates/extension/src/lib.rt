@@ -5,7 +5,7 @@ pub mod grow;
 ghost use Prim.Native.Nat.{_+_, _*_, _≤_, _<_};
 ghost use lib.ListN.{length};
 ghost use Rattle.paper.specs.Area.{K};
-ghost use Rattle.tables.specs.Usable.{Usable};
+ghost use Rattle.tables.specs.UsableBy.{Usable};
 ghost use Rattle.tables.specs.Recorded.{Recorded, Slotted};
 ghost use Rattle.records.specs.Slots.{marksAt, slotsAt};
 ghost use Rattle.extension.specs.Extended.{ExtendsTo};

@@ -14,9 +14,9 @@ use Rattle.accepted_theory.specs.collecting.Collected.{Listing, countOn}
 use Rattle.accepted_theory.proofs.collecting.Laws.{below-places, in-below}
 use Rattle.accepted_theory.proofs.collecting.Sized.{sized-none}
 use Rattle.tables.specs.Within.{Within}
-use Rattle.tables.specs.Usable.{Usable, Scratched, scratchAt, scratchSize}
+use Rattle.tables.specs.UsableBy.{Usable, Scratched, scratchAt, scratchSize}
 use Rattle.tables.proofs.Within.{within-none, within-sets}
-use Rattle.tables.proofs.Usable.{still-usable}
+use Rattle.tables.proofs.UsableBy.{still-usable}
 use Rattle.intervals.specs.Holds.{AddingNodes, Listed, slotsAt}
 use Rattle.intervals.proofs.Nodes.{none-counted}
 

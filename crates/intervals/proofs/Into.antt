@@ -8,8 +8,8 @@ use borrow.Author.Tests.{lt-ltb, le-ltb}
 use lib.Seq.{sets}
 use Rattle.lists.specs.Found.{placed}
 use Rattle.paper.specs.Refusals.{Ruling, passed, refusal, refuse, rule11, decide, Answer, answer, answered, refused, onRefusal}
-use Rattle.tables.specs.Answered.{AnsweredInto}
-use Rattle.tables.specs.Usable.{Scratched}
+use Rattle.tables.specs.AnsweredBy.{AnsweredInto}
+use Rattle.tables.specs.UsableBy.{Scratched}
 
 -- an answer and a buffer by the rules
 pub record Into {A : Type 0} (answers : Answer A) (rules : List Ruling) (x : A) (buffer after result : List ℕ) : Type 0 where

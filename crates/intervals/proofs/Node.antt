@@ -12,8 +12,8 @@ use Rattle.accepted_theory.specs.collecting.SmallMap.{Held, add, addLines}
 use Rattle.accepted_theory.proofs.collecting.Laws.{count-most}
 use Rattle.accepted_theory.proofs.collecting.Add.{addLines-snoc}
 use Rattle.accepted_theory.proofs.collecting.Sized.{count-lines}
-use Rattle.tables.specs.Usable.{positionsAt, nodeStartsAt, linesAt, entriesOf}
-use Rattle.tables.proofs.Words.{count-few, lines-are, lines-long, lines-end, line-word, line-known}
+use Rattle.tables.specs.UsableBy.{positionsAt, nodeStartsAt, linesAt, entriesOf}
+use Rattle.tables.proofs.WordsBy.{count-few, lines-are, lines-long, lines-end, line-word, line-known}
 use Rattle.intervals.specs.Holds.{Adding, AddingNode, Became, Holds, NodeTurn, addWordsOf, slotsAt}
 use Rattle.intervals.proofs.Became.{became-none, became-both, became-same, before-slots}
 

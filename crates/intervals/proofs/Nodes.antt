@@ -14,10 +14,10 @@ use Rattle.accepted_theory.specs.collecting.SmallMap.{Held, addLines, addNodes}
 use Rattle.accepted_theory.specs.collecting.Collected.{countOn}
 use Rattle.accepted_theory.proofs.collecting.Laws.{below-places, in-below}
 use Rattle.accepted_theory.proofs.collecting.Sized.{count-nodes, count-most-nodes}
-use Rattle.tables.specs.Usable.{Usable, Scratched, scratchAt, positionsAt, nodeStartsAt, linesAt, entriesOf}
+use Rattle.tables.specs.UsableBy.{Usable, Scratched, scratchAt, positionsAt, nodeStartsAt, linesAt, entriesOf}
 use Rattle.tables.proofs.Within.{within-wider}
-use Rattle.tables.proofs.Words.{position-is, lines-are}
-use Rattle.tables.proofs.Usable.{still-usable, tables-still}
+use Rattle.tables.proofs.WordsBy.{position-is, lines-are}
+use Rattle.tables.proofs.UsableBy.{still-usable, tables-still}
 use Rattle.intervals.specs.Holds.{AddingNode, AddingNodes, Became, NodesTurn, addWords, addWordsOf, slotsAt}
 use Rattle.intervals.proofs.Became.{became-none, became-both, became-same, before-slots}
 

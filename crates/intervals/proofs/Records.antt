@@ -20,9 +20,9 @@ use Rattle.accepted_theory.proofs.collecting.Laws.{all-in, all-map, in-below}
 use Rattle.accepted_theory.proofs.collecting.Sized.{count-nodes, count-most-nodes, count-place, place-line, sized-room}
 use Rattle.accepted_theory.proofs.collecting.Collected.{collected, touched-known}
 use Rattle.accepted_theory.proofs.collecting.Intervals.{lowest-on-line}
-use Rattle.tables.specs.Usable.{Usable, Scratched}
-use Rattle.tables.proofs.Words.{count-few}
-use Rattle.tables.proofs.Usable.{still-usable, tables-still}
+use Rattle.tables.specs.UsableBy.{Usable, Scratched}
+use Rattle.tables.proofs.WordsBy.{count-few}
+use Rattle.tables.proofs.UsableBy.{still-usable, tables-still}
 use Rattle.on_line.specs.Along.{positionsAlong}
 use Rattle.on_line.proofs.Along.{along-is, line-at}
 use Rattle.intervals.specs.Holds.{Holds, slotsAt}

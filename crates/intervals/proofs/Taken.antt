@@ -17,9 +17,9 @@ use Rattle.paper.specs.Calls.{lineRules}
 use Rattle.refusals.specs.Said.{ruled, refusedBy, ruling}
 use Rattle.refusals.specs.declared.Refusal.{Refusal}
 use Rattle.refusals.proofs.Rulings.{no-refusal, ruling-answer, first-decides, then-decides}
-use Rattle.tables.specs.Answered.{Answered, AnsweredInto}
+use Rattle.tables.specs.AnsweredBy.{Answered, AnsweredInto}
 use Rattle.tables.specs.Within.{Within}
-use Rattle.tables.specs.Usable.{Usable, Scratched, scratchAt, scratchSize}
+use Rattle.tables.specs.UsableBy.{Usable, Scratched, scratchAt, scratchSize}
 use Rattle.tables.proofs.Within.{within-both, within-wider}
 use Rattle.take_in.specs.Taking.{Known}
 use Rattle.take_in.specs.Said.{TakenIn, takenSaid, listRuled}

@@ -14,7 +14,7 @@ use Rattle.paper.specs.Lookup.{lookup}
 use Rattle.paper.specs.Records.{recordAt}
 use Rattle.lookup.specs.Line.{Line, positionsOn}
 use Rattle.lookup.proofs.Along.{length-along}
-use Rattle.tables.specs.Usable.{Spanned, lineStartsAt, nodesAt}
+use Rattle.tables.specs.UsableBy.{Spanned, lineStartsAt, nodesAt}
 use Rattle.on_line.specs.Along.{nodesAlong, positionsAlong}
 use Rattle.on_line.proofs.Along.{handed}
 use Rattle.intervals.specs.Holds.{slotsAt}

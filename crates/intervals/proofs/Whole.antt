@@ -19,9 +19,9 @@ use Rattle.accepted_theory.specs.collecting.SmallMap.{Held, addNodes, fills}
 use Rattle.accepted_theory.specs.collecting.Collected.{fresh}
 use Rattle.accepted_theory.proofs.collecting.Sized.{sized-room}
 use Rattle.accepted_theory.proofs.collecting.Intervals.{intervals-by-map}
-use Rattle.tables.specs.Usable.{Usable, Scratched, scratchAt, scratchSize}
+use Rattle.tables.specs.UsableBy.{Usable, Scratched, scratchAt, scratchSize}
 use Rattle.tables.proofs.Within.{within-both, within-wider}
-use Rattle.tables.proofs.Usable.{tables-still}
+use Rattle.tables.proofs.UsableBy.{tables-still}
 use Rattle.intervals.specs.declared.Intervals.{Intervals}
 use Rattle.intervals.specs.declared.Intervals.the-variants.{Records as Found, NotContiguous}
 use Rattle.intervals.specs.Holds.{Became, Holds, Listed, addWords, slotsAt}

@@ -7,7 +7,7 @@ use lib.ListN.{length, take}
 use Rattle.lists.proofs.Sections.{part}
 use Rattle.paper.specs.Intervals.{intervals}
 use Rattle.paper.specs.Calls.{Written, wrote, foundApart, said, wordsOf}
-use Rattle.tables.specs.Usable.{Scratched, scratchAt}
+use Rattle.tables.specs.UsableBy.{Scratched, scratchAt}
 use Rattle.intervals.specs.declared.Intervals.{Intervals}
 use Rattle.intervals.specs.declared.Intervals.the-variants.{Records, NotContiguous}
 

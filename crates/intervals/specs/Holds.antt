@@ -12,7 +12,7 @@ use Rattle.paper.specs.Records.{recordAt}
 use Rattle.accepted_theory.specs.collecting.SmallMap.{Held, addLines}
 use Rattle.accepted_theory.specs.collecting.Collected.{Sized, countOn, fresh, linesIn}
 use Rattle.tables.specs.Within.{Within}
-use Rattle.tables.specs.Usable.{Usable, scratchAt, positionsAt, nodeStartsAt, linesAt, entriesOf}
+use Rattle.tables.specs.UsableBy.{Usable, scratchAt, positionsAt, nodeStartsAt, linesAt, entriesOf}
 
 -- ---- records in a buffer
 

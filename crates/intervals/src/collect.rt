@@ -5,7 +5,7 @@ ghost use Prim.Native.Nat.{_+_, _*_, _≤_, min, max};
 ghost use lib.ListN.{length};
 ghost use Rattle.lists.proofs.Sections.{part};
 ghost use Rattle.paper.specs.Records.{recordAt};
-ghost use Rattle.tables.specs.Usable.{scratchAt};
+ghost use Rattle.tables.specs.UsableBy.{scratchAt};
 ghost use Rattle.accepted_theory.specs.collecting.SmallMap.{add};
 ghost use Rattle.intervals.specs.Holds.{Adding, AddingNode, AddingNodes, Became, addWords, addWordsOf, intervalOf, putRecord, slotsAt, widenedTo};
 use words::section::word_at;

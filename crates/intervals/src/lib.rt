@@ -4,7 +4,7 @@ pub mod filling;
 
 ghost use Prim.Native.Nat.{_+_, _*_, _≤_};
 ghost use lib.ListN.{length};
-ghost use Rattle.tables.specs.Usable.{Usable, scratchAt};
+ghost use Rattle.tables.specs.UsableBy.{Usable, scratchAt};
 ghost use Rattle.intervals.specs.Holds.{Listed};
 ghost use Rattle.intervals.specs.Answer.{Collected};
 use collect::add_nodes;

@@ -21,10 +21,10 @@ use Rattle.extension.specs.declared.Extended.{Extended}
 use Rattle.extension.specs.declared.Extended.the-variants.{Records as Made, NotExtendable}
 use Rattle.records.specs.Tested.{Tested, checkedSaid}
 use Rattle.records.specs.declared.Checked.{Checked}
-use Rattle.tables.specs.Answered.{AnsweredInto}
-use Rattle.tables.specs.Usable.{Usable}
+use Rattle.tables.specs.AnsweredBy.{AnsweredInto}
+use Rattle.tables.specs.UsableBy.{Usable}
 use Rattle.tables.proofs.Within.{within-none}
-use Rattle.tables.proofs.Usable.{tables-still}
+use Rattle.tables.proofs.UsableBy.{tables-still}
 use Rattle.line_checker.proofs.Records.{Wrote, wrote-some, wrote-none, begun-long}
 use Rattle.intervals.proofs.Into.{Into, into-refused, into-answered}
 use Rattle.line_checker.proofs.Into.{none-into, long-into, fit-into}

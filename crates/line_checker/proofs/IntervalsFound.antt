@@ -24,8 +24,8 @@ use Rattle.take_in.proofs.Passing.{rule9-is}
 use Rattle.intervals.specs.Answer.{Collected, intervalsSaid, listIn}
 use Rattle.intervals.specs.declared.Intervals.{Intervals}
 use Rattle.intervals.specs.declared.Intervals.the-variants.{Records as Made, NotContiguous}
-use Rattle.tables.specs.Answered.{AnsweredInto}
-use Rattle.tables.specs.Usable.{Usable, Scratched, scratchAt}
+use Rattle.tables.specs.AnsweredBy.{AnsweredInto}
+use Rattle.tables.specs.UsableBy.{Usable, Scratched, scratchAt}
 use Rattle.tables.proofs.Within.{within-both}
 use Rattle.line_checker.proofs.Records.{Wrote, wrote-some, wrote-none, begun-long}
 use Rattle.intervals.proofs.Into.{Into, into-refused, into-passed, into-answered, short-enough}

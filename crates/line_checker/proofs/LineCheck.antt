@@ -22,11 +22,11 @@ use Rattle.accepted_theory.proofs.Intervals.{intervals-same, intervals-known}
 use Rattle.accepted_theory.proofs.Walk.{walk-same, lineCheck-same}
 use Rattle.accepted_theory.proofs.recorded.Passing.{intervals-pass-12}
 use Rattle.accepted_theory.proofs.recorded.Reading.{length-words}
-use Rattle.tables.specs.Answered.{Answered}
-use Rattle.tables.specs.Usable.{Usable, Scratched, scratchAt}
+use Rattle.tables.specs.AnsweredBy.{Answered}
+use Rattle.tables.specs.UsableBy.{Usable, Scratched, scratchAt}
 use Rattle.tables.specs.Recorded.{Recorded}
 use Rattle.tables.proofs.Within.{within-both}
-use Rattle.tables.proofs.Usable.{roomy, tables-still}
+use Rattle.tables.proofs.UsableBy.{roomy, tables-still}
 use Rattle.take_in.specs.Taking.{Known}
 use Rattle.take_in.proofs.Answers.{AllNodes}
 use Rattle.intervals.specs.Holds.{Listed}

@@ -12,10 +12,10 @@ use Rattle.accepted_theory.proofs.Records.{nodesIn-same}
 use Rattle.nodes_in.specs.Collected.{FoundIn}
 use Rattle.records.specs.Tested.{Tested, checkedSaid}
 use Rattle.records.specs.declared.Checked.{Checked}
-use Rattle.tables.specs.Answered.{AnsweredInto}
-use Rattle.tables.specs.Usable.{Usable}
+use Rattle.tables.specs.AnsweredBy.{AnsweredInto}
+use Rattle.tables.specs.UsableBy.{Usable}
 use Rattle.tables.proofs.Within.{within-none}
-use Rattle.tables.proofs.Usable.{tables-still}
+use Rattle.tables.proofs.UsableBy.{tables-still}
 use Rattle.intervals.proofs.Into.{Into, into-refused, into-passed, into-answered, too-long, short-enough}
 use Rattle.line_checker.proofs.Records.{begun-long}
 use Rattle.line_checker.proofs.RecordCalls.{into-after, records-passed-both}

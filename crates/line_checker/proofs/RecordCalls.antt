@@ -43,10 +43,10 @@ use Rattle.records.specs.Tested.{Tested, checkedSaid}
 use Rattle.records.specs.declared.Checked.{Checked}
 use Rattle.records.specs.declared.Checked.the-variants.{Refused}
 use Rattle.tables.specs.Recorded.{Recorded, Slotted}
-use Rattle.tables.specs.Usable.{Usable, scratchAt}
-use Rattle.tables.specs.Answered.{Answered}
+use Rattle.tables.specs.UsableBy.{Usable, scratchAt}
+use Rattle.tables.specs.AnsweredBy.{Answered}
 use Rattle.tables.proofs.Within.{within-none, within-both}
-use Rattle.tables.proofs.Usable.{tables-still}
+use Rattle.tables.proofs.UsableBy.{tables-still}
 use Rattle.walk.specs.Walks.{Walks, walkedSaid}
 use Rattle.walk.specs.declared.turns.Walked.{Walked}
 use Rattle.intervals.proofs.Into.{Into}

@@ -13,8 +13,8 @@ use Rattle.lists.proofs.Sections.{part, length-part, getD-part}
 use Rattle.paper.specs.Area.{K, position, nodesOf}
 use Rattle.paper.specs.Walk.{nextOn}
 use Rattle.lookup.specs.Line.{positionsOn}
-use Rattle.tables.specs.Usable.{Usable, positionsAt}
-use Rattle.tables.proofs.Words.{position-is, nodes-are, nodes-span, node-known}
+use Rattle.tables.specs.UsableBy.{Usable, positionsAt}
+use Rattle.tables.proofs.WordsBy.{position-is, nodes-are, nodes-span, node-known}
 use Rattle.on_line.specs.Along.{LineAt, nodesAlong, positionsAlong, nextAlong}
 
 -- two functions that agree on the elements

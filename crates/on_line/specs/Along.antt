@@ -8,7 +8,7 @@ use Rattle.lists.specs.Lists.{keep}
 use Rattle.lists.specs.Found.{Found, front}
 use Rattle.lists.proofs.Sections.{part}
 use Rattle.lookup.specs.Line.{Line, positionsOn}
-use Rattle.tables.specs.Usable.{Spanned, positionsAt, lineStartsAt, nodesAt, entriesOf}
+use Rattle.tables.specs.UsableBy.{Spanned, positionsAt, lineStartsAt, nodesAt, entriesOf}
 
 -- the nodes of line x, and the positions along it
 abbrev pub nodesAlong : List ℕ → ℕ → ℕ → ℕ → List ℕ

@@ -16,8 +16,8 @@ use Rattle.accepted_theory.proofs.Ports.{lines-within}
 use Rattle.stepmap.specs.Formed.{portOf}
 use Rattle.stepmap.proofs.Known.{has-port}
 use Rattle.stepmap.proofs.PortNumbers.{Owner, holder, first-port-next}
-use Rattle.tables.specs.Usable.{Usable, nodeStartsAt, linesAt as nodeLinesAt}
-use Rattle.tables.proofs.Words.{section-at, word-at, count-few, lines-end, lines-long}
+use Rattle.tables.specs.UsableBy.{Usable, nodeStartsAt, linesAt as nodeLinesAt}
+use Rattle.tables.proofs.WordsBy.{section-at, word-at, count-few, lines-end, lines-long}
 use Rattle.port_lines.specs.Ends.{KnownPort, linksAmong}
 use Rattle.port_lines.proofs.Among.{portsOf, linksFrom, row-among}
 

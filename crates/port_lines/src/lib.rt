@@ -7,7 +7,7 @@ ghost use Rattle.paper.specs.Map.{P};
 ghost use lib.Seq.{slice};
 ghost use Rattle.paper.specs.Ports.{firstLine, lineCountAt, viewStart};
 ghost use Rattle.stepmap.specs.Formed.{HasLink, ReadWell};
-ghost use Rattle.tables.specs.Usable.{Usable};
+ghost use Rattle.tables.specs.UsableBy.{Usable};
 ghost use Rattle.port_lines.specs.Ends.{KnownPort, endNode, endOffset, isAmong, linksAmong};
 ghost use Rattle.port_lines.specs.Place.{StartsAt};
 use stepmap::access::link_from;

@@ -18,9 +18,9 @@ use Rattle.paper.specs.Area.{K}
 use Rattle.paper.specs.Intervals.{within}
 use Rattle.paper.specs.Records.{recordAt, recordsIn, insideOn, inside}
 use Rattle.paper.specs.Refusals.{refuse, straddles, rule13}
-use Rattle.tables.specs.Usable.{Usable}
+use Rattle.tables.specs.UsableBy.{Usable}
 use Rattle.tables.specs.Recorded.{Recorded, Unmarked, Marked, Slotted}
-use Rattle.tables.proofs.Words.{count-few, position-is, lines-are, lines-span, line-known}
+use Rattle.tables.proofs.WordsBy.{count-few, position-is, lines-are, lines-span, line-known}
 use Rattle.records.specs.Slots.{slotsAt, marksAt, insideSlot, SlotAt, linesHere, positionHere, NodeAt, insideHere, outsideHere, straddlesHere}
 use Rattle.records.proofs.Any.{any-map, any-alike}
 use Rattle.records.proofs.Reasons.{same-record}

@@ -20,11 +20,11 @@ use Rattle.accepted_theory.specs.SameTables.{SameTables}
 use Rattle.accepted_theory.proofs.Records.{badRecord-same}
 use Rattle.accepted_theory.proofs.Refusals.{not-passed}
 use Rattle.refusals.specs.declared.Refusal.the-variants.{BadRecord}
-use Rattle.tables.specs.Usable.{Usable, Scratched}
+use Rattle.tables.specs.UsableBy.{Usable, Scratched}
 use Rattle.tables.specs.Recorded.{Unmarked, Marked, Slotted}
 use Rattle.tables.proofs.Within.{within-none, within-both, within-set, within-sets}
-use Rattle.tables.proofs.Words.{count-few}
-use Rattle.tables.proofs.Usable.{tables-still, still-usable}
+use Rattle.tables.proofs.WordsBy.{count-few}
+use Rattle.tables.proofs.UsableBy.{tables-still, still-usable}
 use Rattle.records.specs.Slots.{slotsAt, marksAt}
 use Rattle.records.specs.Tested.{Passed, RecordTested, AllTested}
 use Rattle.records.specs.declared.Checked.the-variants.{Good, Refused}

@@ -12,7 +12,7 @@ use Rattle.lookup.specs.Said.{indexSaid}
 use Rattle.lookup.specs.declared.Index.{Index}
 use Rattle.lookup.specs.declared.Index.the-variants.{At, Absent}
 use Rattle.lookup.proofs.Finding.{lookup-finds, stands-member, lookup-absent}
-use Rattle.tables.specs.Usable.{Usable}
+use Rattle.tables.specs.UsableBy.{Usable}
 use Rattle.on_line.specs.Along.{positionsAlong}
 use Rattle.on_line.proofs.Along.{along-is}
 

@@ -17,10 +17,10 @@ use Rattle.accepted_theory.proofs.Refusals.{not-passed}
 use Rattle.refusals.specs.declared.Refusal.{Refusal}
 use Rattle.refusals.specs.declared.Refusal.the-variants.{BadRecord}
 use Rattle.refusals.proofs.Answers.{ruled-injective}
-use Rattle.tables.specs.Usable.{Usable}
+use Rattle.tables.specs.UsableBy.{Usable}
 use Rattle.tables.specs.Recorded.{Recorded, Slotted}
 use Rattle.tables.proofs.Within.{within-none}
-use Rattle.tables.proofs.Usable.{tables-still, still-usable}
+use Rattle.tables.proofs.UsableBy.{tables-still, still-usable}
 use Rattle.records.specs.Slots.{slotsAt, marksAt, NodeAt, straddlesHere}
 use Rattle.records.specs.Tested.{Passed, AllTested, Tested, checkedSaid}
 use Rattle.records.specs.declared.Checked.{Checked}

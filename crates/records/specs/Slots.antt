@@ -10,7 +10,7 @@ use lib.Dec.{eqb}
 use Rattle.lists.specs.Lists.{any}
 use Rattle.paper.specs.Intervals.{within}
 use Rattle.paper.specs.Records.{recordAt}
-use Rattle.tables.specs.Usable.{Spanned, positionsAt, nodeStartsAt, linesAt, scratchAt, entriesOf}
+use Rattle.tables.specs.UsableBy.{Spanned, positionsAt, nodeStartsAt, linesAt, scratchAt, entriesOf}
 
 -- a slot for each line, then a mark for each line
 abbrev pub slotsAt : ℕ → ℕ → ℕ

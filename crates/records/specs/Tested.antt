@@ -9,7 +9,7 @@ use Rattle.paper.specs.Area.{K}
 use Rattle.paper.specs.Records.{recordsIn}
 use Rattle.paper.specs.Refusals.{Ruling, passed, refuse, badRecord, rule12, rule13, decide}
 use Rattle.refusals.specs.Said.{ruled}
-use Rattle.tables.specs.Usable.{Scratched}
+use Rattle.tables.specs.UsableBy.{Scratched}
 use Rattle.tables.specs.Recorded.{Recorded, Slotted}
 use Rattle.records.specs.Slots.{slotsAt, marksAt}
 use Rattle.records.specs.declared.Checked.{Checked}

@@ -4,7 +4,7 @@ ghost use Prim.Native.Nat.{_+_, _*_, _<_};
 ghost use lib.ListN.{length};
 ghost use Rattle.paper.specs.Area.{K};
 ghost use Rattle.paper.specs.Refusals.{badRecord, onLine};
-ghost use Rattle.tables.specs.Usable.{Usable};
+ghost use Rattle.tables.specs.UsableBy.{Usable};
 ghost use Rattle.records.specs.Tested.{Passed, RecordTested};
 use lookup::Index;
 use on_line::index_on;

@@ -9,7 +9,7 @@ ghost use lib.ListN.{length};
 ghost use Rattle.lists.specs.Found.{first};
 ghost use Rattle.paper.specs.Refusals.{passed, refuse};
 ghost use Rattle.refusals.specs.Said.{ruled};
-ghost use Rattle.tables.specs.Usable.{Usable};
+ghost use Rattle.tables.specs.UsableBy.{Usable};
 ghost use Rattle.records.specs.Slots.{NodeAt, straddlesHere};
 ghost use Rattle.records.specs.Tested.{AllTested, Tested, checkedSaid};
 use bad::check_record;

@@ -17,6 +17,13 @@ ghost use Rattle.refusals.specs.Said.{ruled, ruling};
 ghost use Rattle.stepmap.specs.Formed.{fewPorts};
 ghost use Rattle.stepmap.specs.Said.{mapSaid};
 
+// How many nodes, links and ports a map has: what the reader finds, handed on by value.
+pub struct Sizes {
+    pub nodes: usize,
+    pub links: usize,
+    pub ports: usize,
+}
+
 // What reading finds: how many nodes, links and ports there are, or refusal 1 or 2.
 pub enum StepMap {
     Sized {

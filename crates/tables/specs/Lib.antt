@@ -1,4 +1,7 @@
 pub mod Within
+pub mod Placed
 pub mod Usable
 pub mod Recorded
 pub mod Answered
+pub mod UsableBy
+pub mod AnsweredBy

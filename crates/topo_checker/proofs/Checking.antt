@@ -20,10 +20,10 @@ use Rattle.convexity_theory.specs.places.Passed.{passing}
 use Rattle.convexity_theory.specs.places.Places.{nodeAt}
 use Rattle.convexity_theory.proofs.places.Listed.{member-place}
 use Rattle.convexity_theory.proofs.places.Together.{passing-is}
-use Rattle.tables.specs.Usable.{Usable, Scratched, scratchAt, scratchSize}
-use Rattle.tables.specs.Answered.{Answered}
+use Rattle.tables.specs.UsableBy.{Usable, Scratched, scratchAt, scratchSize}
+use Rattle.tables.specs.AnsweredBy.{Answered}
 use Rattle.tables.proofs.Within.{within-none, within-both, within-wider}
-use Rattle.tables.proofs.Usable.{roomy, tables-still, still-usable}
+use Rattle.tables.proofs.UsableBy.{roomy, tables-still, still-usable}
 use Rattle.topo_checker.specs.Layout.{marksAt, Laid, LaidOut}
 use Rattle.topo_checker.specs.Listing.{Unlisted, listedSaid, ListTaken, markedPlaces}
 use Rattle.topo_checker.specs.Passing.{Fresh, MarkedBy, passingOver, MarkedChecked}

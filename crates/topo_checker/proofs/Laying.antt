@@ -23,9 +23,9 @@ use Rattle.toposort.proofs.Composing.{long-starts, long-sorted, ordering}
 use Rattle.convexity_theory.specs.places.Places.{nodeAt, placeOf}
 use Rattle.convexity_theory.proofs.places.Places.{node-known, place-of-node, place-below, node-of-place}
 use Rattle.tables.specs.Within.{Within}
-use Rattle.tables.specs.Usable.{Usable, Scratched, scratchAt, scratchSize}
+use Rattle.tables.specs.UsableBy.{Usable, Scratched, scratchAt, scratchSize}
 use Rattle.tables.proofs.Within.{within-none, within-both, within-sets, within-set, within-wider}
-use Rattle.tables.proofs.Usable.{roomy}
+use Rattle.tables.proofs.UsableBy.{roomy}
 use Rattle.topo_checker.specs.Layout.{marksAt, LinksLaid, Ordered, PlacesKept, Placed, Laid, LaidOut}
 use Rattle.topo_checker.proofs.Taking.{placed-still}
 

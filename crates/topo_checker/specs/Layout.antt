@@ -5,7 +5,7 @@ use mathlib.Core.Path.{_≡_}
 use mathlib.Core.List.{List}
 use lib.ListN.{length, getD}
 use Rattle.tables.specs.Within.{Within}
-use Rattle.tables.specs.Usable.{Scratched}
+use Rattle.tables.specs.UsableBy.{Scratched}
 use Rattle.toposort.specs.Standing.{Indexed}
 use Rattle.toposort.specs.Laid.{firstsAt, startsAt, sortedAt, countsAt}
 

@@ -1,6 +1,6 @@
 // What the order check reads, laid into the scratch: the links by output port, marks for the places, and each node's place.
 ghost use Rattle.toposort.specs.Laid.{Ready};
-ghost use Rattle.tables.specs.Usable.{Usable};
+ghost use Rattle.tables.specs.UsableBy.{Usable};
 ghost use Rattle.topo_checker.specs.Layout.{LaidOut, LinksLaid, Ordered, PlacesKept};
 use links_by_port::links_by_output;
 use stepmap::ports::first_ports;

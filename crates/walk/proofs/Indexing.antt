@@ -13,7 +13,7 @@ use Rattle.links_by_port.specs.Tabled.{byPort}
 use Rattle.toposort.specs.Standing.{Indexed}
 use Rattle.toposort.specs.Laid.{Ready, keysAt, startsAt as startsThere, sortedAt as sortedThere, countsAt}
 use Rattle.toposort.proofs.Composing.{long-starts, long-sorted, ordering}
-use Rattle.tables.specs.Usable.{Scratched}
+use Rattle.tables.specs.UsableBy.{Scratched}
 use Rattle.tables.proofs.Within.{within-none, within-sets}
 use Rattle.walk.specs.Queue.{queueAt}
 use Rattle.walk.specs.Links.{firstsAt, startsAt, sortedAt, Linked}

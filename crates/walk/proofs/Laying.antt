@@ -15,11 +15,11 @@ use Rattle.paper.specs.Records.{recordAt}
 use Rattle.walk_theory.proofs.Joined.{nobody-joined}
 use Rattle.accepted_theory.proofs.Records.{badRecord-same}
 use Rattle.tables.specs.Within.{Within}
-use Rattle.tables.specs.Usable.{Usable, Scratched, scratchAt, scratchSize}
+use Rattle.tables.specs.UsableBy.{Usable, Scratched, scratchAt, scratchSize}
 use Rattle.tables.specs.Recorded.{Recorded}
 use Rattle.tables.proofs.Within.{within-none, within-both, within-set, within-sets, within-wider}
-use Rattle.tables.proofs.Words.{count-few}
-use Rattle.tables.proofs.Usable.{tables-still, still-usable}
+use Rattle.tables.proofs.WordsBy.{count-few}
+use Rattle.tables.proofs.UsableBy.{tables-still, still-usable}
 use Rattle.walk.specs.Queue.{queueAt}
 use Rattle.walk.specs.Lows.{lowsAt, lowOn, lowsLaid, Lined}
 use Rattle.walk.specs.Links.{Linked}

@@ -14,7 +14,7 @@ use Rattle.lists.proofs.Upto.{table-suc}
 use Rattle.paper.specs.Intervals.{Interval}
 use Rattle.paper.specs.Records.{recordAt, recordsIn}
 use Rattle.paper.specs.Walk.{M}
-use Rattle.tables.specs.Usable.{positionsAt, nodeStartsAt, linesAt, entriesOf}
+use Rattle.tables.specs.UsableBy.{positionsAt, nodeStartsAt, linesAt, entriesOf}
 use Rattle.walk.specs.Lows.{Lined, Asked, lowsLaid, belowLows}
 
 pub records-next : (words : List ℕ) (i : ℕ) → recordsIn words (suc i) ≡ recordsIn words i ++ (recordAt words i ∷ [])

@@ -24,10 +24,10 @@ use Rattle.walk_theory.proofs.Answers.{stopped-no, ended-yes}
 use Rattle.accepted_theory.specs.SameTables.{KnownLine, SameTables}
 use Rattle.accepted_theory.proofs.Every.{any-every}
 use Rattle.tables.specs.Within.{Within}
-use Rattle.tables.specs.Usable.{Usable, Scratched, scratchAt, scratchSize, positionsAt}
+use Rattle.tables.specs.UsableBy.{Usable, Scratched, scratchAt, scratchSize, positionsAt}
 use Rattle.tables.proofs.Within.{within-both, within-wider}
-use Rattle.tables.proofs.Words.{position-is, lines-are}
-use Rattle.tables.proofs.Usable.{tables-still, still-usable}
+use Rattle.tables.proofs.WordsBy.{position-is, lines-are}
+use Rattle.tables.proofs.UsableBy.{tables-still, still-usable}
 use Rattle.walk.specs.Queue.{queueAt, Queued}
 use Rattle.walk.specs.Lows.{lowsAt, lowOn, belowLows}
 use Rattle.walk.specs.Turns.{turnSaid, visitIn, Turning, GoesOn, Turned}

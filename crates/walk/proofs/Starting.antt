@@ -23,10 +23,10 @@ use Rattle.accepted_theory.proofs.Walk.{nextOn-same, nextOn-known, startNodes-s
 use Rattle.on_line.specs.Along.{positionsAlong, nextAlong}
 use Rattle.on_line.proofs.Along.{line-at, along-is, next-is}
 use Rattle.tables.specs.Within.{Within}
-use Rattle.tables.specs.Usable.{Usable, Scratched}
+use Rattle.tables.specs.UsableBy.{Usable, Scratched}
 use Rattle.tables.specs.Recorded.{Recorded}
 use Rattle.tables.proofs.Within.{within-none, within-both}
-use Rattle.tables.proofs.Usable.{tables-still, still-usable}
+use Rattle.tables.proofs.UsableBy.{tables-still, still-usable}
 use Rattle.walk.specs.Queue.{queueAt, Queued, Grown}
 use Rattle.walk.specs.Lows.{lowsAt}
 use Rattle.walk.specs.Walks.{Laid, Started, Ended, Walks}

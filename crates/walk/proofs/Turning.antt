@@ -13,9 +13,9 @@ use Rattle.paper.specs.Area.{K}
 use Rattle.paper.specs.Map.{outNeighbours}
 use Rattle.walk_theory.specs.Marked.{going, stopped}
 use Rattle.walk_theory.proofs.Joined.{joined-known}
-use Rattle.tables.specs.Usable.{Usable, positionsAt, nodeStartsAt, linesAt, entriesOf}
+use Rattle.tables.specs.UsableBy.{Usable, positionsAt, nodeStartsAt, linesAt, entriesOf}
 use Rattle.tables.proofs.Within.{within-none}
-use Rattle.tables.proofs.Words.{lines-are, lines-span, line-known, count-few}
+use Rattle.tables.proofs.WordsBy.{lines-are, lines-span, line-known, count-few}
 use Rattle.walk.specs.Queue.{queueAt, Grown}
 use Rattle.walk.specs.Lows.{lowsAt, belowLows, Asked}
 use Rattle.walk.specs.Turns.{visitIn, Turning, Turned}

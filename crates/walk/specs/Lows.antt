@@ -7,7 +7,7 @@ use lib.ListN.{length, getD, set}
 use lib.Dec.{eqb, ltb}
 use Rattle.lists.specs.Lists.{any}
 use Rattle.paper.specs.Records.{recordAt}
-use Rattle.tables.specs.Usable.{Spanned, positionsAt, nodeStartsAt, linesAt, entriesOf}
+use Rattle.tables.specs.UsableBy.{Spanned, positionsAt, nodeStartsAt, linesAt, entriesOf}
 
 -- where the section stands, behind the queue and its marks
 abbrev pub lowsAt : ℕ → ℕ → ℕ → ℕ

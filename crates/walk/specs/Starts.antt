@@ -7,7 +7,7 @@ use mathlib.Core.List.{List}
 use Rattle.lists.specs.Lists.{member}
 use Rattle.lists.specs.Found.{at}
 use Rattle.on_line.specs.Along.{LineAt, positionsAlong, nextAlong}
-use Rattle.tables.specs.Usable.{Scratched}
+use Rattle.tables.specs.UsableBy.{Scratched}
 use Rattle.walk.specs.Queue.{queueAt, Queued}
 use Rattle.walk.specs.Walks.{Laid, Started}
 

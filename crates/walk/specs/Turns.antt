@@ -10,7 +10,7 @@ use Rattle.lists.proofs.Sections.{part}
 use Rattle.paper.specs.Map.{outNeighbours}
 use Rattle.walk_theory.specs.Marked.{joinAll, Marked, going, stopped}
 use Rattle.tables.specs.Within.{Within}
-use Rattle.tables.specs.Usable.{Usable, positionsAt}
+use Rattle.tables.specs.UsableBy.{Usable, positionsAt}
 use Rattle.walk.specs.Queue.{queueAt, Queued}
 use Rattle.walk.specs.Lows.{lowsAt, belowLows}
 use Rattle.walk.specs.Links.{Linked}

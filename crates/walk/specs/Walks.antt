@@ -11,7 +11,7 @@ use Rattle.paper.specs.Records.{recordsIn}
 use Rattle.paper.specs.Walk.{startNodes, walk}
 use Rattle.walk_theory.specs.Marked.{joinAll}
 use Rattle.tables.specs.Within.{Within}
-use Rattle.tables.specs.Usable.{Usable, Scratched}
+use Rattle.tables.specs.UsableBy.{Usable, Scratched}
 use Rattle.tables.specs.Recorded.{Recorded}
 use Rattle.walk.specs.Queue.{queueAt, Queued}
 use Rattle.walk.specs.Lows.{lowsAt, lowOn}

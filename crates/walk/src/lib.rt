@@ -6,7 +6,7 @@ pub mod queue;
 pub mod starts;
 pub mod turns;
 
-ghost use Rattle.tables.specs.Usable.{Usable};
+ghost use Rattle.tables.specs.UsableBy.{Usable};
 ghost use Rattle.tables.specs.Recorded.{Recorded};
 ghost use Rattle.walk.specs.Walks.{Walks};
 use starts::start;

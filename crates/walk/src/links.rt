@@ -15,7 +15,7 @@ ghost use Rattle.lists.specs.Lists.{upto};
 ghost use Rattle.paper.specs.Map.{firstPort, outNeighbours};
 ghost use Rattle.stepmap.specs.Formed.{Numbered};
 ghost use Rattle.toposort.specs.Laid.{Ready};
-ghost use Rattle.tables.specs.Usable.{Scratched};
+ghost use Rattle.tables.specs.UsableBy.{Scratched};
 ghost use Rattle.walk.specs.Queue.{queueAt, Queued, Grown};
 ghost use Rattle.walk.specs.Links.{Linked, Leading, targets};
 

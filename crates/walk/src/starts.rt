@@ -9,7 +9,7 @@ use words::field::wide;
 use words::section::fill;
 ghost use Rattle.lists.specs.Found.{listed};
 ghost use Rattle.on_line.specs.Along.{nextAlong};
-ghost use Rattle.tables.specs.Usable.{Usable};
+ghost use Rattle.tables.specs.UsableBy.{Usable};
 ghost use Rattle.tables.specs.Recorded.{Recorded};
 ghost use Rattle.walk.specs.Queue.{Grown};
 ghost use Rattle.walk.specs.Starts.{Starting, LaidOut, Begun};

@@ -23,8 +23,8 @@ use Rattle.topo_checker.specs.Said.{topoSaid}
 use Rattle.topo_checker.specs.declared.TopoAnswer.{TopoAnswer}
 use Rattle.topo_checker.specs.declared.TopoAnswer.the-variants as Topo
 use Rattle.topo_checker.proofs.TopoAnswer.{the-type as topo-type}
-use Rattle.tables.specs.Answered.{Answered}
-use Rattle.tables.specs.Usable.{Usable, Scratched, scratchAt, scratchSize}
+use Rattle.tables.specs.AnsweredBy.{Answered}
+use Rattle.tables.specs.UsableBy.{Usable, Scratched, scratchAt, scratchSize}
 use Rattle.tables.proofs.Within.{within-both, within-wider}
 use Rattle.with_ports.specs.AfterPorts.{afterPorts}
 

@@ -1,6 +1,6 @@
 -- `byte_lists::check_list_bytes` meets its contract: 8, 9 and 10 from taking the list in from bytes, then the check of its nodes.
 -- Rests on intervals' Taken and line_checker's LineCheck.
-use Rattle.tables.proofs.Usable.{still-usable}
+use Rattle.tables.proofs.UsableBy.{still-usable}
 use Rattle.intervals.proofs.Taken.{taken-kept, not-taken, list-refused, all-taken, listed}
 use Rattle.line_checker.proofs.LineCheck.{list-checked}
 use borrow.Author.Needs.{needs}

@@ -3,7 +3,7 @@
 use native.Mathlib.Omega.{arith}
 use mathlib.Core.Path.{sym, _∙_}
 use Rattle.tables.proofs.Within.{within-none}
-use Rattle.tables.proofs.Usable.{still-usable}
+use Rattle.tables.proofs.UsableBy.{still-usable}
 use Rattle.intervals.proofs.Into.{into-answered}
 use Rattle.line_checker.proofs.IntervalsFound.{empty-into, refused-into}
 use Rattle.intervals.proofs.Taken.{taken-kept, not-taken, all-taken, listed}

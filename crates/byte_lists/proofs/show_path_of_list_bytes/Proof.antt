@@ -1,7 +1,7 @@
 -- `byte_lists::show_path_of_list_bytes` meets its contract: 8, 9 and 10 from taking the list in from bytes, then the path of its nodes.
 -- Rests on PathBytes and intervals' Taken.
 use native.Mathlib.Omega.{arith}
-use Rattle.tables.proofs.Usable.{still-usable}
+use Rattle.tables.proofs.UsableBy.{still-usable}
 use Rattle.intervals.proofs.Taken.{taken-kept, not-taken, list-refused-into, all-taken, listed}
 use Rattle.byte_lists.proofs.IntoBytes.{bytes-kept}
 use Rattle.byte_lists.proofs.PathBytes.{nodes-to-bytes}

@@ -3,8 +3,8 @@
 use Prim.Native.Nat.{_+_}
 use native.Mathlib.Omega.{arith}
 use borrow.Author.Needs.{needs}
-use Rattle.tables.proofs.Words.{lines-span}
-use Rattle.tables.specs.Usable.{positionsAt}
+use Rattle.tables.proofs.WordsBy.{lines-span}
+use Rattle.tables.specs.UsableBy.{positionsAt}
 use Rattle.extension.proofs.Ending.{few-given, lines-ready, extended}
 use Rattle.extension.proofs.extend.Statement.{statement}
 use Rattle.extension.proofs.extend.Tie as tie

@@ -2,7 +2,7 @@
 -- Rests on Extending.
 use native.Mathlib.Omega.{arith}
 use borrow.Author.Needs.{needs}
-use Rattle.tables.proofs.Words.{count-few, nodes-span}
+use Rattle.tables.proofs.WordsBy.{count-few, nodes-span}
 use Rattle.extension.proofs.Extending.{few-made, room-there, new-record, can-grow, grown-record, stopped-record}
 use Rattle.extension.proofs.extend_line.Statement.{statement}
 use Rattle.extension.proofs.extend_line.Tie as tie

@@ -5,7 +5,7 @@ use native.Mathlib.Omega.{arith}
 use mathlib.Core.Path.{refl, ap₂, _∙_}
 use lib.Seq.{slice}
 use borrow.Author.Needs.{needs}
-use Rattle.tables.proofs.Words.{between}
+use Rattle.tables.proofs.WordsBy.{between}
 use Rattle.port_lines.proofs.PortLines.{view-few, view-inside}
 use Rattle.port_lines.proofs.lines_at_port.Statement.{statement}
 use Rattle.port_lines.proofs.lines_at_port.Tie as tie

@@ -3,9 +3,9 @@
 use Prim.Native.Nat.{_-_, _≤_}
 use native.Mathlib.Omega.{arith}
 use borrow.Author.Needs.{needs}
-use Rattle.tables.proofs.Usable.{still-usable}
+use Rattle.tables.proofs.UsableBy.{still-usable}
 use Rattle.tables.proofs.Within.{within-none, within-both}
-use Rattle.tables.specs.Usable.{Usable, Scratched}
+use Rattle.tables.specs.UsableBy.{Usable, Scratched}
 use Rattle.records.proofs.Slotting.{cleared-kept, none-passed, passed-next, bad-found, all-good}
 use Rattle.records.specs.Tested.{Passed}
 use Rattle.records.proofs.slot_records.Statement.{statement}

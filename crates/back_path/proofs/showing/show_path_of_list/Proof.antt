@@ -1,7 +1,7 @@
 -- `back_path::showing::show_path_of_list` meets its contract: 8, 9 and 10 from taking the list in, then the path of its nodes.
 -- Rests on Listing and intervals' Taken.
 use borrow.Author.Needs.{needs}
-use Rattle.tables.proofs.Usable.{still-usable}
+use Rattle.tables.proofs.UsableBy.{still-usable}
 use Rattle.intervals.proofs.Taken.{taken-kept, not-taken, list-refused-into, all-taken, listed}
 use Rattle.back_path.proofs.Listing.{list-shows}
 use Rattle.back_path.proofs.showing.show_path_of_list.Statement.{statement}

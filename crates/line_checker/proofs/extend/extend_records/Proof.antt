@@ -2,7 +2,7 @@
 -- Rests on ExtendFound and RecordCalls.
 use mathlib.Core.Path.{ap}
 use Rattle.records.specs.Tested.{checkedSaid}
-use Rattle.tables.proofs.Usable.{still-usable}
+use Rattle.tables.proofs.UsableBy.{still-usable}
 use Rattle.line_checker.proofs.ExtendFound.{node-unknown, extend-refused, extend-answered}
 use Rattle.line_checker.proofs.RecordCalls.{is-bad, recorded-still, slotted-still}
 use borrow.Author.Needs.{needs}

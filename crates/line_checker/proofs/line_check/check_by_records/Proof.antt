@@ -2,7 +2,7 @@
 -- Rests on RecordCalls.
 use mathlib.Core.Path.{ap}
 use Rattle.records.specs.Tested.{checkedSaid}
-use Rattle.tables.proofs.Usable.{still-usable}
+use Rattle.tables.proofs.UsableBy.{still-usable}
 use Rattle.line_checker.proofs.RecordCalls.{is-bad, no-records, by-records-refused, by-records-walked, recorded-still}
 use borrow.Author.Needs.{needs}
 use Rattle.line_checker.proofs.line_check.check_by_records.Statement.{statement}

@@ -1,6 +1,6 @@
 -- `line_checker::line_check::check_list` meets its contract: 8, 9 and 10 from taking the list in, then the check of its nodes.
 -- Rests on LineCheck and intervals' Taken.
-use Rattle.tables.proofs.Usable.{still-usable}
+use Rattle.tables.proofs.UsableBy.{still-usable}
 use Rattle.intervals.proofs.Taken.{taken-kept, not-taken, list-refused, all-taken, listed}
 use Rattle.line_checker.proofs.LineCheck.{list-checked}
 use borrow.Author.Needs.{needs}

@@ -1,7 +1,7 @@
 -- `line_checker::line_check::check_listed` meets its contract: the intervals of the nodes in the scratch, and the walk on their records.
 -- Rests on LineCheck.
 use native.Mathlib.Omega.{arith}
-use Rattle.tables.proofs.Usable.{still-usable}
+use Rattle.tables.proofs.UsableBy.{still-usable}
 use Rattle.line_checker.proofs.LineCheck.{gap-answered, recorded, walk-answered}
 use borrow.Author.Needs.{needs}
 use Rattle.line_checker.proofs.line_check.check_listed.Statement.{statement}

@@ -1,7 +1,7 @@
 -- `line_checker::list_intervals::intervals_of_list` meets its contract: no records for no nodes, 9 and 10 from taking the list in, then its intervals.
 -- Rests on IntervalsFound and intervals' Taken.
 use Rattle.tables.proofs.Within.{within-none}
-use Rattle.tables.proofs.Usable.{still-usable}
+use Rattle.tables.proofs.UsableBy.{still-usable}
 use Rattle.intervals.proofs.Into.{into-answered}
 use Rattle.line_checker.proofs.IntervalsFound.{empty-into, refused-into, nodes-into}
 use Rattle.intervals.proofs.Taken.{taken-kept, not-taken, all-taken, listed}

@@ -6,7 +6,7 @@ use lib.ListN.{length}
 use Rattle.paper.specs.Records.{nodesIn, recordsIn}
 use Rattle.paper.specs.Refusals.{Ruling, rule11}
 use Rattle.records.specs.Tested.{checkedSaid}
-use Rattle.tables.proofs.Usable.{still-usable}
+use Rattle.tables.proofs.UsableBy.{still-usable}
 use Rattle.intervals.proofs.Into.{into-answered, into-refused}
 use Rattle.line_checker.proofs.NodesFound.{nodes-answered}
 use Rattle.line_checker.proofs.RecordCalls.{is-bad, records-refused, recorded-still, slotted-still}

@@ -5,7 +5,7 @@ use native.Mathlib.Omega.{arith}
 use borrow.Author.Needs.{needs}
 use lib.ListN.{length-set}
 use Rattle.paper.specs.Area.{K}
-use Rattle.tables.proofs.Words.{count-few}
+use Rattle.tables.proofs.WordsBy.{count-few}
 use Rattle.records.proofs.Slotting.{few-passed, bad-left, good-line, good-left}
 use Rattle.records.specs.Slots.{slotsAt}
 use Rattle.records.proofs.bad.check_record.Statement.{statement}

@@ -4,7 +4,7 @@ use Prim.Native.Nat.{_<_}
 use native.Mathlib.Omega.{arith}
 use borrow.Author.Needs.{needs}
 use Rattle.paper.specs.Area.{K}
-use Rattle.tables.proofs.Words.{count-is, count-few}
+use Rattle.tables.proofs.WordsBy.{count-is, count-few}
 use Rattle.records.proofs.Slotting.{mark-set, mark-clear}
 use Rattle.records.proofs.Reasons.{unknown-line, used-line, low-off, high-off, order-decides}
 use Rattle.records.proofs.bad.is_bad.Statement.{statement}
