@@ -37,8 +37,8 @@ module _ {room : List ℕ} {made x : ℕ} {after : List ℕ} {count : ℕ} (chan
           let early : i < made = omega (arith, changed .most) in
           changed .free (omega (arith, g)) i early (sym (changed .lines i early) ∙ e ∙ new-line j h g)
 
-  pub ahead-still : {b a : List ℕ} {n l y : ℕ} → (y ≡ x → ⊥) → Ahead b a slots room made y → Ahead b a slots after count y
-  ahead-still {b} {a} {n} {l} {y} ne ahead = record { slot = go (ahead .slot); high = λ j h e. ends j h e (decLt j made) .0; upright = λ j h e. ends j h e (decLt j made) .1 }
+  pub ahead-still : {b a : List ℕ} {slots : LineSlots} {y : ℕ} → (y ≡ x → ⊥) → Ahead b a slots room made y → Ahead b a slots after count y
+  ahead-still {b} {a} {slots} {y} ne ahead = record { slot = go (ahead .slot); high = λ j h e. ends j h e (decLt j made) .0; upright = λ j h e. ends j h e (decLt j made) .1 }
     where
       none-there : Unmarked a room made (slots .marks) y → (j : ℕ) → j < count → Dec (j < made) → recordAt after j .line ≡ y → ⊥
       none-there free j h (yes g) e = free .none j g (sym (changed .lines j g) ∙ e)
