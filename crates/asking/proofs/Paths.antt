@@ -18,9 +18,9 @@ use Rattle.path_theory.proofs.levels.Bounds.{few-steps}
 use Rattle.text.specs.Printed.{Put}
 use Rattle.asking.specs.Standing.{preparedArea, Standing}
 use Rattle.asking.specs.Printed.{Printed}
-use Rattle.back_path.specs.declared.showing.PathAnswer.{PathAnswer}
-use Rattle.back_path.specs.declared.showing.PathAnswer.the-variants.{Path as pathOf}
-use Rattle.back_path.specs.Said.{pathSaid}
+use Rattle.answers.specs.declared.PathAnswer.{PathAnswer}
+use Rattle.answers.specs.declared.PathAnswer.the-variants.{Path as pathOf}
+use Rattle.answers.specs.Said.{pathSaid}
 use Rattle.asking.specs.Ways.{wayIn, stepsShown}
 use Rattle.asking.proofs.Areas.{path-asked}
 use Rattle.asking.proofs.Texts.{shown-as}

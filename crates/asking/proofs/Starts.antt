@@ -21,10 +21,10 @@ use Rattle.paper.specs.Text.{newline, linesIn, showRefused, sayLines, firstOutp
 use Rattle.paper.proofs.Promise.{never-answered}
 use Rattle.text.specs.Printed.{Put, firstLine}
 use Rattle.text.proofs.Printed.{first-is, first-short}
-use Rattle.convex.specs.Said.{preparedSaid}
-use Rattle.convex.specs.declared.prepare.Prepared.{Prepared}
-use Rattle.convex.specs.declared.prepare.Prepared.the-variants.{Lines, Refused}
-use Rattle.convex.proofs.prepare.Prepared.{the-type}
+use Rattle.answers.specs.Said.{preparedSaid}
+use Rattle.answers.specs.declared.Prepared.{Prepared}
+use Rattle.answers.specs.declared.Prepared.the-variants.{Lines, Refused}
+use Rattle.answers.proofs.Prepared.{the-type}
 use Rattle.asking.specs.Standing.{preparedArea, Standing}
 use Rattle.asking.specs.Says.{Says}
 use Rattle.asking.specs.Printed.{Shown}

@@ -1,5 +1,5 @@
 // How the output begins: one line that is all of it, or the first line, after which come the lists.
-use convex::prepare::Prepared;
+use answers::Prepared;
 use convex::prepare::prepare;
 use refusals::number;
 use refusals::place;
@@ -10,7 +10,7 @@ use text::printer::put_refused_line;
 ghost use Prim.Native.Nat.{_≤_};
 ghost use lib.ListN.{length};
 ghost use Rattle.text.specs.Printed.{Put};
-ghost use Rattle.convex.specs.Said.{preparedSaid};
+ghost use Rattle.answers.specs.Said.{preparedSaid};
 ghost use Rattle.asking.specs.Begun.{Begun, refusedLine};
 
 // What was put, as where it ends: the whole output, or its first line.

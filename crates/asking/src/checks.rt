@@ -1,20 +1,19 @@
 // What `ask` says of a list: the answers of both checks.
+use answers::LineAnswer;
+use answers::TopoAnswer;
 use convex::line_convex_checker::is_node_convex as line_check;
 use convex::topo_convex_checker::is_node_convex as order_check;
-use line_checker::line_check::LineAnswer;
 use refusals::number;
 use refusals::place;
 use text::printer::put_checked;
 use text::printer::put_refused;
 use text::printer::put_reply;
 use text::printer::put_text;
-use topo_checker::TopoAnswer;
 ghost use Prim.Native.Nat.{_+_, _≤_, _<_};
 ghost use lib.ListN.{length};
 ghost use Rattle.paper.specs.Text.{askSays, showLine, showOrder};
 ghost use Rattle.text.specs.Printed.{Put};
-ghost use Rattle.line_checker.specs.Said.{lineSaid};
-ghost use Rattle.topo_checker.specs.Said.{topoSaid};
+ghost use Rattle.answers.specs.Said.{lineSaid, topoSaid};
 ghost use Rattle.asking.specs.Standing.{Standing, preparedArea};
 ghost use Rattle.asking.specs.Printed.{Printed, bothChecks};
 

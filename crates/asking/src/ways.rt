@@ -1,5 +1,5 @@
 // What `why` says of a list: the path that leaves it and comes back, or that there is none.
-use back_path::showing::PathAnswer;
+use answers::PathAnswer;
 use convex::path::show_path;
 use refusals::number;
 use refusals::place;
@@ -11,7 +11,7 @@ ghost use Prim.Native.Nat.{_≤_, _<_};
 ghost use lib.ListN.{length};
 ghost use Rattle.paper.specs.Text.{showWay, whySays};
 ghost use Rattle.text.specs.Printed.{Put};
-ghost use Rattle.back_path.specs.Said.{pathSaid};
+ghost use Rattle.answers.specs.Said.{pathSaid};
 ghost use Rattle.asking.specs.Standing.{Standing, preparedArea};
 ghost use Rattle.asking.specs.Printed.{Printed};
 ghost use Rattle.asking.specs.Ways.{stepsShown, wayIn};

@@ -3,8 +3,8 @@
 use Prim.Native.Nat.{ℕ}
 use mathlib.Core.Path.{refl, sym, ap, ap₂, _∙_}
 use Rattle.paper.specs.Refusals.{refused}
-use Rattle.convex.specs.declared.prepare.Prepared.{Prepared}
-use Rattle.convex.specs.Said.{preparedSaid}
+use Rattle.answers.specs.declared.Prepared.{Prepared}
+use Rattle.answers.specs.Said.{preparedSaid}
 use Rattle.asking.specs.Begun.{refusedLine}
 use Rattle.asking.proofs.Texts.{put-as}
 use borrow.Author.Needs.{needs}

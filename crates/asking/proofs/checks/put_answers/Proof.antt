@@ -2,7 +2,7 @@
 -- Rests on text's Printed.
 use native.Mathlib.Omega.{arith}
 use Rattle.text.proofs.Printed.{put-then, line-short}
-use Rattle.line_checker.specs.Said.{lineSaid}
+use Rattle.answers.specs.Said.{lineSaid}
 use Rattle.asking.specs.Printed.{bothChecks}
 use borrow.Author.Needs.{needs}
 use Rattle.asking.proofs.checks.put_answers.Statement.{statement}

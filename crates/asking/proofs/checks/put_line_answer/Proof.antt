@@ -2,8 +2,8 @@
 -- Rests on Texts.
 use mathlib.Core.Path.{sym, ap, ap₂, _∙_}
 use Rattle.paper.specs.Text.{showRefused, showLine}
-use Rattle.line_checker.specs.declared.line_check.LineAnswer.{LineAnswer}
-use Rattle.line_checker.specs.Said.{lineSaid}
+use Rattle.answers.specs.declared.LineAnswer.{LineAnswer}
+use Rattle.answers.specs.Said.{lineSaid}
 use Rattle.asking.proofs.Texts.{put-as}
 use borrow.Author.Needs.{needs}
 use Rattle.asking.proofs.checks.put_line_answer.Statement.{statement}

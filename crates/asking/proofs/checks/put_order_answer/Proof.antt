@@ -2,8 +2,8 @@
 -- Rests on Texts.
 use mathlib.Core.Path.{sym, ap, ap₂, _∙_}
 use Rattle.paper.specs.Text.{showRefused, showOrder}
-use Rattle.topo_checker.specs.declared.TopoAnswer.{TopoAnswer}
-use Rattle.topo_checker.specs.Said.{topoSaid}
+use Rattle.answers.specs.declared.TopoAnswer.{TopoAnswer}
+use Rattle.answers.specs.Said.{topoSaid}
 use Rattle.asking.proofs.Texts.{put-as}
 use borrow.Author.Needs.{needs}
 use Rattle.asking.proofs.checks.put_order_answer.Statement.{statement}

@@ -4,8 +4,8 @@ use native.Mathlib.Omega.{arith}
 use mathlib.Core.Path.{sym, ap, ap₂, _∙_}
 use Rattle.paper.specs.Text.{showRefused, showWay}
 use Rattle.text.proofs.Printed.{refused-short}
-use Rattle.back_path.specs.declared.showing.PathAnswer.{PathAnswer}
-use Rattle.back_path.specs.Said.{pathSaid}
+use Rattle.answers.specs.declared.PathAnswer.{PathAnswer}
+use Rattle.answers.specs.Said.{pathSaid}
 use Rattle.asking.specs.Ways.{wayIn}
 use Rattle.asking.proofs.Texts.{put-as}
 use Rattle.asking.proofs.Paths.{count-within, part-within, part-is}
