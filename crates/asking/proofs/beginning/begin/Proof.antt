@@ -3,8 +3,9 @@
 use native.Mathlib.Omega.{arith}
 use Rattle.answers.specs.Said.{preparedSaid}
 use Rattle.asking.specs.Begun.{whole, first}
-use Rattle.asking.proofs.Starts.{over-map, refused-map, refused-map-short, long-input, trailer, opened}
-use Rattle.asking.proofs.Texts.{shown-as, refused-line-short}
+use Rattle.asking.proofs.Starts.{over-map, refused-map, long-input, trailer, opened}
+use Rattle.asking.proofs.Texts.{shown-as}
+use Rattle.wording.proofs.Texts.{refused-line-short, refused-map-short}
 use borrow.Author.Needs.{needs}
 use Rattle.asking.proofs.beginning.begin.Statement.{statement}
 use Rattle.asking.proofs.beginning.begin.Tie as tie

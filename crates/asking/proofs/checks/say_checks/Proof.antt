@@ -1,6 +1,7 @@
 -- `asking::checks::say_checks` meets its contract: both checks answer as in the prepared area, and leave one that stands for it.
 -- Rests on Texts.
-use Rattle.asking.proofs.Texts.{both-asked, both-short}
+use Rattle.wording.proofs.Texts.{both-short}
+use Rattle.asking.proofs.Texts.{both-asked}
 use Rattle.answers.specs.Said.{lineSaid, topoSaid}
 use native.Mathlib.Omega.{arith}
 use borrow.Author.Needs.{needs}
