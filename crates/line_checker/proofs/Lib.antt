@@ -1,4 +1,3 @@
-pub mod Answers
 pub mod Records
 pub mod LineCheck
 pub mod Into

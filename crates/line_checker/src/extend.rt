@@ -9,22 +9,16 @@ ghost use Rattle.paper.specs.Refusals.{rule9, rule11, rule12, rule13, wholeReco
 ghost use Rattle.tables.specs.Recorded.{Recorded, Slotted};
 ghost use Rattle.tables.specs.UsableBy.{Usable, scratchAt};
 ghost use Rattle.tables.specs.AnsweredBy.{AnsweredInto};
-ghost use Rattle.line_checker.specs.Said.{extendSaid};
+ghost use Rattle.answers.specs.Said.{extendSaid};
 use super::room::copy_out;
 use super::room::record_room;
+use answers::ExtendAnswer;
 use extension::Extended;
 use extension::extend;
 use records::Checked;
 use records::check_records;
 use records::record_refusal;
 use refusals::Refusal;
-
-// What extending answers: how many records there are now, that they cannot be extended, or a refusal.
-pub enum ExtendAnswer {
-    Records(usize),
-    NotExtendable,
-    Refused(Refusal),
-}
 
 // Extends records that may be used by a known node: 11 if the records then do not fit their buffer.
 fn write_extended(

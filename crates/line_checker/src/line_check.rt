@@ -11,8 +11,9 @@ ghost use Rattle.intervals.specs.Answer.{listIn};
 ghost use Rattle.intervals.specs.Holds.{Listed};
 ghost use Rattle.walk.specs.Walks.{walkedSaid};
 ghost use Rattle.tables.specs.AnsweredBy.{Answered};
-ghost use Rattle.line_checker.specs.Said.{lineSaid};
+ghost use Rattle.answers.specs.Said.{lineSaid};
 use super::room::record_room;
+use answers::LineAnswer;
 use intervals::Intervals;
 use intervals::get_intervals;
 use records::Checked;
@@ -24,13 +25,6 @@ use take_in::list_refusal;
 use take_in::take_in;
 use walk::turns::Walked;
 use walk::walk;
-
-// What the line check and the check by records answer: yes or no with the walk's count, or a refusal.
-pub enum LineAnswer {
-    Yes(usize),
-    No(usize),
-    Refused(Refusal),
-}
 
 // The walk's answer as the check's.
 fn walk_answer(walked: Walked) -> LineAnswer

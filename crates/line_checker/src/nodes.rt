@@ -9,20 +9,15 @@ ghost use Rattle.paper.specs.Refusals.{rule11, rule12, rule13};
 ghost use Rattle.tables.specs.Recorded.{Recorded, Slotted};
 ghost use Rattle.tables.specs.UsableBy.{Usable, scratchAt};
 ghost use Rattle.tables.specs.AnsweredBy.{AnsweredInto};
-ghost use Rattle.line_checker.specs.Said.{nodesSaid};
+ghost use Rattle.answers.specs.Said.{nodesSaid};
 use super::room::copy_out;
 use super::room::node_room;
+use answers::NodesAnswer;
 use nodes_in::nodes_in;
 use records::Checked;
 use records::check_records;
 use records::record_refusal;
 use refusals::Refusal;
-
-// What nodes in records answer: how many were written, or a refusal.
-pub enum NodesAnswer {
-    Nodes(usize),
-    Refused(Refusal),
-}
 
 // The nodes in records that may be used: 11 if they do not fit the buffer.
 fn write_nodes(

@@ -1,13 +1,13 @@
--- `asking::checks::put_line_answer` meets its contract: each answer is shown as paper shows what it says.
+-- `wording::put_line_answer` meets its contract: each answer is shown as paper shows what it says.
 -- Rests on Texts.
 use mathlib.Core.Path.{sym, ap, ap₂, _∙_}
 use Rattle.paper.specs.Text.{showRefused, showLine}
-use Rattle.line_checker.specs.declared.line_check.LineAnswer.{LineAnswer}
-use Rattle.line_checker.specs.Said.{lineSaid}
-use Rattle.asking.proofs.Texts.{put-as}
+use Rattle.answers.specs.declared.LineAnswer.{LineAnswer}
+use Rattle.answers.specs.Said.{lineSaid}
+use Rattle.wording.proofs.Texts.{put-as}
 use borrow.Author.Needs.{needs}
-use Rattle.asking.proofs.checks.put_line_answer.Statement.{statement}
-use Rattle.asking.proofs.checks.put_line_answer.Tie as tie
+use Rattle.wording.proofs.put_line_answer.Statement.{statement}
+use Rattle.wording.proofs.put_line_answer.Tie as tie
 
 returns : tie.Need-returns
 returns c = put-as (ap (λ (a : LineAnswer). showLine (lineSaid a)) (c .before .before .before .before .before .answer .given .1)) (c .before .before .put-checked .ensures)

@@ -1,12 +1,12 @@
--- `asking::checks::put_answers` meets its contract: four texts one after the other; there is room for each.
+-- `wording::put_answers` meets its contract: four texts one after the other; there is room for each.
 -- Rests on text's Printed.
 use native.Mathlib.Omega.{arith}
 use Rattle.text.proofs.Printed.{put-then, line-short}
-use Rattle.line_checker.specs.Said.{lineSaid}
-use Rattle.asking.specs.Printed.{bothChecks}
+use Rattle.answers.specs.Said.{lineSaid}
+use Rattle.wording.specs.Shown.{bothChecks}
 use borrow.Author.Needs.{needs}
-use Rattle.asking.proofs.checks.put_answers.Statement.{statement}
-use Rattle.asking.proofs.checks.put_answers.Tie as tie
+use Rattle.wording.proofs.put_answers.Statement.{statement}
+use Rattle.wording.proofs.put_answers.Tie as tie
 
 put-text-requires-2 : tie.Need-put-text-requires-2
 put-text-requires-2 c κs = omega (arith, line-short (lineSaid (c .before .before .before .before .before .before .before .before .before .before .before .before .args .line)))

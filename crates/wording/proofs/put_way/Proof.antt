@@ -1,17 +1,16 @@
--- `asking::ways::put_way` meets its contract: each answer is shown as paper shows it, a path by the words in which its steps stand.
--- Rests on Paths.
+-- `wording::put_way` meets its contract: each answer is shown as paper shows it, a path by the words in which its steps stand.
+-- Rests on Texts.
 use native.Mathlib.Omega.{arith}
 use mathlib.Core.Path.{sym, ap, ap₂, _∙_}
 use Rattle.paper.specs.Text.{showRefused, showWay}
 use Rattle.text.proofs.Printed.{refused-short}
-use Rattle.back_path.specs.declared.showing.PathAnswer.{PathAnswer}
-use Rattle.back_path.specs.Said.{pathSaid}
-use Rattle.asking.specs.Ways.{wayIn}
-use Rattle.asking.proofs.Texts.{put-as}
-use Rattle.asking.proofs.Paths.{count-within, part-within, part-is}
+use Rattle.answers.specs.declared.PathAnswer.{PathAnswer}
+use Rattle.answers.specs.Said.{pathSaid}
+use Rattle.wording.specs.Shown.{wayIn}
+use Rattle.wording.proofs.Texts.{put-as, count-within, part-within, part-is}
 use borrow.Author.Needs.{needs}
-use Rattle.asking.proofs.ways.put_way.Statement.{statement}
-use Rattle.asking.proofs.ways.put_way.Tie as tie
+use Rattle.wording.proofs.put_way.Statement.{statement}
+use Rattle.wording.proofs.put_way.Tie as tie
 
 part-put-path-end : tie.Need-part-put-path-end
 part-put-path-end c =

@@ -1,15 +1,15 @@
--- `asking::beginning::put_unprepared` meets its contract: a refusal has its number and place, and a prepared map puts nothing.
+-- `wording::put_unprepared` meets its contract: a refusal has its number and place, and a prepared map puts nothing.
 -- Rests on Texts.
 use Prim.Native.Nat.{ℕ}
 use mathlib.Core.Path.{refl, sym, ap, ap₂, _∙_}
 use Rattle.paper.specs.Refusals.{refused}
-use Rattle.convex.specs.declared.prepare.Prepared.{Prepared}
-use Rattle.convex.specs.Said.{preparedSaid}
-use Rattle.asking.specs.Begun.{refusedLine}
-use Rattle.asking.proofs.Texts.{put-as}
+use Rattle.answers.specs.declared.Prepared.{Prepared}
+use Rattle.answers.specs.Said.{preparedSaid}
+use Rattle.wording.specs.Shown.{refusedLine}
+use Rattle.wording.proofs.Texts.{put-as}
 use borrow.Author.Needs.{needs}
-use Rattle.asking.proofs.beginning.put_unprepared.Statement.{statement}
-use Rattle.asking.proofs.beginning.put_unprepared.Tie as tie
+use Rattle.wording.proofs.put_unprepared.Statement.{statement}
+use Rattle.wording.proofs.put_unprepared.Tie as tie
 
 returns : tie.Need-returns
 unfolding refusedLine

@@ -1,13 +1,13 @@
--- `asking::checks::put_order_answer` meets its contract: each answer is shown as paper shows what it says.
+-- `wording::put_order_answer` meets its contract: each answer is shown as paper shows what it says.
 -- Rests on Texts.
 use mathlib.Core.Path.{sym, ap, ap₂, _∙_}
 use Rattle.paper.specs.Text.{showRefused, showOrder}
-use Rattle.topo_checker.specs.declared.TopoAnswer.{TopoAnswer}
-use Rattle.topo_checker.specs.Said.{topoSaid}
-use Rattle.asking.proofs.Texts.{put-as}
+use Rattle.answers.specs.declared.TopoAnswer.{TopoAnswer}
+use Rattle.answers.specs.Said.{topoSaid}
+use Rattle.wording.proofs.Texts.{put-as}
 use borrow.Author.Needs.{needs}
-use Rattle.asking.proofs.checks.put_order_answer.Statement.{statement}
-use Rattle.asking.proofs.checks.put_order_answer.Tie as tie
+use Rattle.wording.proofs.put_order_answer.Statement.{statement}
+use Rattle.wording.proofs.put_order_answer.Tie as tie
 
 returns : tie.Need-returns
 unfolding showOrder
