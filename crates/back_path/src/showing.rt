@@ -3,7 +3,7 @@ use super::writing::write_path;
 use distances::closing::Closing;
 use distances::closing::close;
 use distances::queue::mark_list;
-use neighbours::lay_links;
+use neighbours::both::lay_links;
 use refusals::Refusal;
 use take_in::Taken;
 use take_in::list_refusal;

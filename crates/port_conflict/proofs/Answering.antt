@@ -17,7 +17,7 @@ use Rattle.paper.specs.Calls.{portRules}
 use Rattle.paper.specs.Ports.{conflict}
 use Rattle.paper.specs.Refusals.{Ruling, passed, refusal, Answer, answered, answer, decide, rule14}
 use Rattle.order_theory.proofs.Refusals.{sound}
-use Rattle.links_by_port.proofs.Writing.{source-below, target-below}
+use Rattle.neighbours.proofs.Writing.{source-below, target-below}
 use Rattle.tables.specs.declared.Layout.{Layout}
 use Rattle.tables.specs.Answered.{Answered}
 use Rattle.tables.specs.Placed.{scratchSize}

@@ -4,17 +4,9 @@ pub mod links;
 pub mod marks;
 pub mod room;
 
-ghost use mathlib.Core.Path.{_≡_};
-ghost use mathlib.Core.List.{map};
-ghost use Prim.Native.Nat.{_+_, _≤_};
-ghost use lib.ListN.{length};
-ghost use lib.Seq.{sets};
-ghost use Rattle.lists.specs.Lists.{upto};
 ghost use Rattle.paper.specs.Calls.{portRules};
-ghost use Rattle.paper.specs.Map.{firstPort};
 ghost use Rattle.paper.specs.Ports.{conflict};
 ghost use Rattle.paper.specs.Words.{wordsFrom};
-ghost use Rattle.stepmap.specs.Formed.{Numbered};
 ghost use Rattle.tables.specs.Answered.{Answered};
 ghost use Rattle.tables.specs.Usable.{Usable};
 ghost use Rattle.port_conflict.specs.Room.{Fits};
@@ -22,9 +14,9 @@ ghost use Rattle.port_conflict.specs.Said.{LinksLooked, portsSaid};
 use links::first_links_meet;
 use marks::mark_lists;
 use marks::mark_lists_bytes;
+use neighbours::first_ports_at;
 use room::PortRoom;
 use room::lay_room;
-use stepmap::ports::first_ports;
 use tables::Layout;
 
 // What two lists of ports come to: an unknown port at an entry of its list, a conflict, or none.
@@ -32,16 +24,6 @@ pub enum PortsFound {
     Unknown(usize),
     Conflict,
     Clear,
-}
-
-// Writes the first ports of the n nodes, and their number, to the section at `at`.
-fn first_ports_at(b: &[u8], n: usize, area: &mut [u16], at: usize)
-    requires { ⌜ Numbered (now b) n ⌝ }
-    requires { ⌜ at + (n + 1) ≤ length (now area) ⌝ }
-    ensures { λ _. ⌜ now (area .exit) ≡ sets (now (area .entry)) at (map (firstPort (now (b .entry))) (upto (n + 1))) ⌝ }
-{
-    let end = at + (n + 1);
-    first_ports(b, n, &mut area[at..end]);
 }
 
 // What the ports come to once they are marked, however their lists came: the first unknown one, or whether the first links meet.

@@ -9,7 +9,7 @@ use Rattle.lists.specs.Lists.{upto}
 use Rattle.lists.proofs.Upto.{length-table}
 use Rattle.paper.specs.Map.{firstPort, sourcePort}
 use Rattle.counting_sort.specs.Sorted.{startsBy, sortedBy}
-use Rattle.links_by_port.specs.Tabled.{byPort}
+use Rattle.neighbours.specs.Tabled.{byPort}
 use Rattle.toposort.specs.Standing.{Indexed}
 use Rattle.toposort.specs.Laid.{Ready, keysAt, startsAt as startsThere, sortedAt as sortedThere, countsAt}
 use Rattle.toposort.proofs.Composing.{long-starts, long-sorted, ordering}

@@ -1,7 +1,7 @@
 // Translated from src/algorithms/convex/line_convex_checker.rs of portgraph (88172a3c8e, Apache-2.0, see NOTICE), and changed: the output
 // neighbours of a node are read from its links by output port, which stand in the lent area.
 use super::queue::join;
-use links_by_port::links_by_output;
+use neighbours::by_port::links_by_output;
 use stepmap::access::link_to;
 use stepmap::ports::first_ports;
 use toposort::turns::links_start;

@@ -11,7 +11,7 @@ use Rattle.lists.proofs.Sections.{part, getD-sets-in, part-sets-in}
 use Rattle.lists.proofs.Upto.{length-table, getD-table}
 use Rattle.counting_sort.specs.Sorted.{startsBy, sortedBy}
 use Rattle.counting_sort.specs.Keyed.{Sorting, keysOf}
-use Rattle.links_by_port.specs.Tabled.{Roomy, byPort}
+use Rattle.neighbours.specs.Tabled.{Roomy, byPort}
 
 module _ {b a : List ℕ} {n l p firsts keys starts sorted : ℕ} (ready : Roomy b a n l p firsts keys starts sorted) (f : ℕ → ℕ)
     (ports : (k : ℕ) → k < l → f k < p) {m : List ℕ} (written : m ≡ sets a keys (map f (upto l))) where

@@ -1,14 +1,12 @@
 // The links of a step map by output port and by input port, each in listing order: one counting sort each, into the lent area.
-pub mod keys;
-
 ghost use mathlib.Core.Path.{_≡_};
 ghost use mathlib.Core.List.{map};
 ghost use Rattle.lists.specs.Lists.{upto};
 ghost use Rattle.paper.specs.Map.{sourcePort, targetPort};
-ghost use Rattle.links_by_port.specs.Tabled.{Roomy, byPort};
+ghost use Rattle.neighbours.specs.Tabled.{Roomy, byPort};
+use super::keys::source_keys;
+use super::keys::target_keys;
 use counting_sort::count_sort;
-use keys::source_keys;
-use keys::target_keys;
 
 // Lists the links by output port, then listing order: where each port starts goes to `starts`, the links to `sorted`.
 pub fn links_by_output(

@@ -1,4 +1,4 @@
--- `links_by_port::keys::target_nodes` meets its contract: after k links the targets of the first k stand.
+-- `neighbours::keys::target_nodes` meets its contract: after k links the targets of the first k stand.
 -- Rests on Writing.
 use Prim.Native.Nat.{_-_, _≤_, _<_, _+_, _*_, _^_}
 use native.Mathlib.Omega.{arith}
@@ -11,9 +11,9 @@ use Rattle.lists.specs.Lists.{upto}
 use Rattle.lists.proofs.Upto.{at-the-end}
 use Rattle.paper.specs.Map.{linkTo}
 use Rattle.order_theory.proofs.Refusals.{sound}
-use Rattle.links_by_port.proofs.Writing.{has-link, target-known, as-long, key-inside, one-more}
-use Rattle.links_by_port.proofs.keys.target_nodes.Statement.{statement}
-use Rattle.links_by_port.proofs.keys.target_nodes.Tie as tie
+use Rattle.neighbours.proofs.Writing.{has-link, target-known, as-long, key-inside, one-more}
+use Rattle.neighbours.proofs.keys.target_nodes.Statement.{statement}
+use Rattle.neighbours.proofs.keys.target_nodes.Tie as tie
 
 abbrev Inv-loop : tie.InvT-loop
 Inv-loop b n l p area₀ firsts keys k₀ area k =

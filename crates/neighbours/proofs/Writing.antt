@@ -15,7 +15,7 @@ use Rattle.paper.specs.Map.{N, L, P, ins, outs, firstPort, input, output, linkF
 use Rattle.order_theory.specs.Sound.{Sound}
 use Rattle.order_theory.proofs.Ports.{ports-end}
 use Rattle.stepmap.specs.Formed.{HasLink, ReadWell}
-use Rattle.links_by_port.specs.Tabled.{Tabled}
+use Rattle.neighbours.specs.Tabled.{Tabled}
 
 -- a port of a known node is below P
 port-below : (b : List ℕ) (v x : ℕ) → v < N b → x < ins b v + outs b v → firstPort b v + x < P b

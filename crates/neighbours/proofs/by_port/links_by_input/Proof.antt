@@ -1,12 +1,12 @@
--- `links_by_port::links_by_input` meets its contract: the keys that it writes are ports, and they are sorted.
+-- `neighbours::by_port::links_by_input` meets its contract: the keys that it writes are ports, and they are sorted.
 -- Rests on Sorted.
 use borrow.Author.Needs.{needs}
 use Rattle.paper.specs.Map.{targetPort}
 use Rattle.order_theory.proofs.Refusals.{sound}
-use Rattle.links_by_port.proofs.Writing.{target-below}
-use Rattle.links_by_port.proofs.Sorted.{ready-to-sort, by-port}
-use Rattle.links_by_port.proofs.links_by_input.Statement.{statement}
-use Rattle.links_by_port.proofs.links_by_input.Tie as tie
+use Rattle.neighbours.proofs.Writing.{target-below}
+use Rattle.neighbours.proofs.Sorted.{ready-to-sort, by-port}
+use Rattle.neighbours.proofs.by_port.links_by_input.Statement.{statement}
+use Rattle.neighbours.proofs.by_port.links_by_input.Tie as tie
 
 count-sort-requires : tie.Need-count-sort-requires
 count-sort-requires c κs =

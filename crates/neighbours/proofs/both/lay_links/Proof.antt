@@ -1,10 +1,10 @@
--- `neighbours::lay_links` meets its contract: the sections stand one after the other, and each step finds its own.
--- Rests on Laying.
+-- `neighbours::both::lay_links` meets its contract: the sections stand one after the other, and each step finds its own.
+-- Rests on LayingBy.
 use borrow.Author.Needs.{needs}
 use Rattle.stepmap.proofs.Known.{numbered}
-use Rattle.neighbours.proofs.Laying.{firsts-fit, roomy-out, roomy-in, laying}
-use Rattle.neighbours.proofs.lay_links.Statement.{statement}
-use Rattle.neighbours.proofs.lay_links.Tie as tie
+use Rattle.neighbours.proofs.LayingBy.{firsts-fit, roomy-out, roomy-in, laying}
+use Rattle.neighbours.proofs.both.lay_links.Statement.{statement}
+use Rattle.neighbours.proofs.both.lay_links.Tie as tie
 
 first-ports-at-requires : tie.Need-first-ports-at-requires
 first-ports-at-requires c κs =

@@ -4,7 +4,7 @@ ghost use mathlib.Core.List.{map};
 ghost use lib.Seq.{sets};
 ghost use Rattle.lists.specs.Lists.{upto};
 ghost use Rattle.paper.specs.Map.{linkTo, sourcePort, targetPort};
-ghost use Rattle.links_by_port.specs.Tabled.{Tabled};
+ghost use Rattle.neighbours.specs.Tabled.{Tabled};
 use stepmap::access::link_from;
 use stepmap::access::link_in;
 use stepmap::access::link_out;
