@@ -23,11 +23,11 @@ use Rattle.tables.specs.declared.Layout.{Layout}
 use Rattle.tables.specs.Answered.{AnsweredInto, AnsweredBytes}
 use Rattle.tables.specs.Usable.{Usable, Scratched}
 use Rattle.tables.specs.UsableBy.{scratchAt}
-use Rattle.line_checker.specs.Said.{intervalsSaid}
-use Rattle.line_checker.specs.declared.list_intervals.IntervalsAnswer.{IntervalsAnswer}
-use Rattle.line_checker.specs.declared.list_intervals.IntervalsAnswer.the-variants.{Records as Made}
-use Rattle.line_checker.proofs.list_intervals.IntervalsAnswer.{the-type}
-use Rattle.line_checker.proofs.Answers.{intervalsSaid-injective}
+use Rattle.answers.specs.Said.{intervalsSaid}
+use Rattle.answers.specs.declared.IntervalsAnswer.{IntervalsAnswer}
+use Rattle.answers.specs.declared.IntervalsAnswer.the-variants.{Records as Made}
+use Rattle.answers.proofs.IntervalsAnswer.{the-type}
+use Rattle.answers.proofs.Apart.{intervalsSaid-injective}
 use Rattle.line_checker.proofs.IntervalsFound.{nodes-into}
 use Rattle.line_checker.proofs.Records.{wrote-some}
 use Rattle.byte_lists.proofs.Few.{few-needed, room-decides, long-enough}

@@ -25,11 +25,11 @@ use Rattle.tables.specs.declared.Layout.{Layout}
 use Rattle.tables.specs.Answered.{AnsweredInto, AnsweredBytes}
 use Rattle.tables.specs.Usable.{Usable, Scratched}
 use Rattle.tables.specs.UsableBy.{scratchAt}
-use Rattle.back_path.specs.Said.{pathSaid}
-use Rattle.back_path.specs.declared.showing.PathAnswer.{PathAnswer}
-use Rattle.back_path.specs.declared.showing.PathAnswer.the-variants.{Path as Shows}
-use Rattle.back_path.proofs.showing.PathAnswer.{the-type}
-use Rattle.back_path.proofs.Apart.{pathSaid-injective}
+use Rattle.answers.specs.Said.{pathSaid}
+use Rattle.answers.specs.declared.PathAnswer.{PathAnswer}
+use Rattle.answers.specs.declared.PathAnswer.the-variants.{Path as Shows}
+use Rattle.answers.proofs.PathAnswer.{the-type}
+use Rattle.answers.proofs.Apart.{pathSaid-injective}
 use Rattle.byte_lists.proofs.Few.{room-decides, long-enough}
 use Rattle.byte_lists.proofs.IntoBytes.{bytes-back, answer-told}
 use Rattle.byte_lists.proofs.Room.{InRoom, room-says, nothing-put, words-put}

@@ -21,10 +21,10 @@ use Rattle.tables.specs.Answered.{AnsweredInto, AnsweredBytes}
 use Rattle.tables.specs.Usable.{Usable}
 use Rattle.words.proofs.RoundTrip.{Below}
 use Rattle.words.proofs.Turns.{length-wordsFrom}
-use Rattle.line_checker.specs.Said.{extendSaid}
-use Rattle.line_checker.specs.declared.extend.ExtendAnswer.{ExtendAnswer}
-use Rattle.line_checker.specs.declared.extend.ExtendAnswer.the-variants as Extend
-use Rattle.line_checker.proofs.extend.ExtendAnswer.{the-type}
+use Rattle.answers.specs.Said.{extendSaid}
+use Rattle.answers.specs.declared.ExtendAnswer.{ExtendAnswer}
+use Rattle.answers.specs.declared.ExtendAnswer.the-variants as Extend
+use Rattle.answers.proofs.ExtendAnswer.{the-type}
 use Rattle.line_checker.proofs.Records.{Wrote, wrote-some, wrote-none}
 use Rattle.byte_records.proofs.InRoom.{ReadRecords}
 use Rattle.byte_records.proofs.Crossed.{extend-all}

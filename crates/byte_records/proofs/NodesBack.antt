@@ -17,9 +17,9 @@ use Rattle.tables.specs.Answered.{AnsweredInto, AnsweredBytes}
 use Rattle.tables.specs.Usable.{Usable}
 use Rattle.words.proofs.RoundTrip.{Below}
 use Rattle.words.proofs.Turns.{length-wordsFrom}
-use Rattle.line_checker.specs.Said.{nodesSaid}
-use Rattle.line_checker.specs.declared.nodes.NodesAnswer.{NodesAnswer}
-use Rattle.line_checker.specs.declared.nodes.NodesAnswer.the-variants as In
+use Rattle.answers.specs.Said.{nodesSaid}
+use Rattle.answers.specs.declared.NodesAnswer.{NodesAnswer}
+use Rattle.answers.specs.declared.NodesAnswer.the-variants as In
 use Rattle.byte_records.proofs.InRoom.{ReadRecords}
 use Rattle.byte_records.proofs.Crossed.{nodes-all}
 use Rattle.byte_records.proofs.PutBack.{fits-11, answered-passed, says-all, in-room, unput, put-back, front}

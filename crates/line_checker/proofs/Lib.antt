@@ -1,5 +1,4 @@
 pub mod ByPlaces
-pub mod Answers
 pub mod Records
 pub mod LineCheck
 pub mod Into

@@ -94,7 +94,7 @@ module _ {b a : List ℕ} {at : Layout} (usable : Usable b a at) {c : ℕ} (ther
       pub recorded : Recorded b o words made
       recorded = good-still (tables-still usable (scratched-at usable (got .kept))) words made fits pass-12
 
-      pub walk-answered : {q : List ℕ} {w : Walked} → Walks b o words made (at .sizes .nodes) (at .sizes .links) (at .sizes .ports) w q → {y : Answer (Reply × ℕ)} → y ≡ answered (walkedSaid w)
+      pub walk-answered : {q : List ℕ} {w : Walked} → Walks b o words made at w q → {y : Answer (Reply × ℕ)} → y ≡ answered (walkedSaid w)
           → Answered at a q y [] (lineCheck b a (listIn a (at .sizes .nodes) (at .sizes .links) c))
       unfolding lineCheck walkOn answer decide
       walk-answered walked f =
@@ -106,7 +106,7 @@ module _ {b a : List ℕ} {at : Layout} (usable : Usable b a at) {c : ℕ} (ther
                 ∙ sym (walk-same (tables-still usable (scratched-at usable (got .kept))) (sound b (usable .links)) (held .list) known-records)
                 ∙ ap (walkOn b a) (sym (held .is))
                 );
-            kept = within-both (scratched-at usable (got .kept)) (scratched-at usable (walked .kept));
+            kept = within-both (scratched-at usable (got .kept)) (walked .kept);
           }
 
 -- ---- a list that was taken in

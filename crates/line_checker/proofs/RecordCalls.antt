@@ -152,7 +152,7 @@ module _ {b a : List ℕ} {at : Layout} (usable : Usable b a at) {words : List �
         kept = scratched-at usable (tested .kept);
       }
 
-  pub by-records-walked : checkedSaid r ≡ passed → {o : List ℕ} {w : Walked} → Walks b m words count (at .sizes .nodes) (at .sizes .links) (at .sizes .ports) w o → {y : Answer (Reply × ℕ)}
+  pub by-records-walked : checkedSaid r ≡ passed → {o : List ℕ} {w : Walked} → Walks b m words count at w o → {y : Answer (Reply × ℕ)}
       → y ≡ answered (walkedSaid w)
       → Answered at a o y (rule8 count ∷ rule12 b a words count ∷ rule13 b a (recordsIn words count) ∷ []) (walk b a (recordsIn words count))
   unfolding answer rules
@@ -162,5 +162,5 @@ module _ {b a : List ℕ} {at : Layout} (usable : Usable b a at) {words : List �
             said-after (rule8 count ∷ []) given rules (walk b a (recordsIn words count))
             (e ∙ ap answered (walked .said ∙ walk-still usable tested good)
             ∙ ap (λ (u : Ruling). answer u (walk b a (recordsIn words count))) (records-passed-both usable tested good));
-        kept = within-both (scratched-at usable (tested .kept)) (scratched-at usable (walked .kept));
+        kept = within-both (scratched-at usable (tested .kept)) (walked .kept);
       }

@@ -10,9 +10,10 @@ ghost use Rattle.tables.specs.Recorded.{Recorded, Slotted};
 ghost use Rattle.tables.specs.Usable.{Usable};
 ghost use Rattle.tables.specs.UsableBy.{scratchAt};
 ghost use Rattle.tables.specs.Answered.{AnsweredInto};
-ghost use Rattle.line_checker.specs.Said.{extendSaid};
+ghost use Rattle.answers.specs.Said.{extendSaid};
 use super::room::copy_out;
 use super::room::record_room;
+use answers::ExtendAnswer;
 use extension::Extended;
 use extension::extend;
 use records::Checked;
@@ -20,13 +21,6 @@ use records::check_records;
 use records::record_refusal;
 use refusals::Refusal;
 use tables::Layout;
-
-// What extending answers: how many records there are now, that they cannot be extended, or a refusal.
-pub enum ExtendAnswer {
-    Records(usize),
-    NotExtendable,
-    Refused(Refusal),
-}
 
 // Extends records that may be used by a known node: 11 if the records then do not fit their buffer.
 fn write_extended(

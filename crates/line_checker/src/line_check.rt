@@ -12,8 +12,9 @@ ghost use Rattle.intervals.specs.Answer.{listIn};
 ghost use Rattle.intervals.specs.Holds.{Listed};
 ghost use Rattle.walk.specs.Walks.{walkedSaid};
 ghost use Rattle.tables.specs.Answered.{Answered};
-ghost use Rattle.line_checker.specs.Said.{lineSaid};
+ghost use Rattle.answers.specs.Said.{lineSaid};
 use super::room::record_room;
+use answers::LineAnswer;
 use intervals::Intervals;
 use intervals::get_intervals;
 use records::Checked;
@@ -26,13 +27,6 @@ use take_in::list_refusal;
 use take_in::take_in;
 use walk::turns::Walked;
 use walk::walk;
-
-// What the line check and the check by records answer: yes or no with the walk's count, or a refusal.
-pub enum LineAnswer {
-    Yes(usize),
-    No(usize),
-    Refused(Refusal),
-}
 
 // The walk's answer as the check's.
 fn walk_answer(walked: Walked) -> LineAnswer
@@ -65,15 +59,7 @@ pub fn check_listed(b: &[u8], at: Layout, area: &mut [u16], count: usize) -> Lin
     let Intervals::Records(made) = found else {
         return LineAnswer::No(0);
     };
-    let walked = walk(
-        b,
-        at.sizes.nodes,
-        at.sizes.links,
-        at.sizes.ports,
-        area,
-        &room,
-        made,
-    );
+    let walked = walk(b, at, area, &room, made);
     walk_answer(walked)
 }
 
@@ -119,14 +105,6 @@ pub fn check_by_records(
     let Checked::Good = checked else {
         return LineAnswer::Refused(record_refusal(checked));
     };
-    let walked = walk(
-        b,
-        at.sizes.nodes,
-        at.sizes.links,
-        at.sizes.ports,
-        area,
-        records,
-        count,
-    );
+    let walked = walk(b, at, area, records, count);
     walk_answer(walked)
 }

@@ -9,9 +9,10 @@ ghost use Rattle.intervals.specs.Holds.{Listed};
 ghost use Rattle.tables.specs.Usable.{Usable};
 ghost use Rattle.tables.specs.UsableBy.{scratchAt};
 ghost use Rattle.tables.specs.Answered.{AnsweredInto};
-ghost use Rattle.line_checker.specs.Said.{intervalsSaid};
+ghost use Rattle.answers.specs.Said.{intervalsSaid};
 use super::room::copy_out;
 use super::room::record_room;
+use answers::IntervalsAnswer;
 use intervals::Intervals;
 use intervals::get_intervals;
 use refusals::Refusal;
@@ -19,13 +20,6 @@ use tables::Layout;
 use take_in::Taken;
 use take_in::list_refusal;
 use take_in::take_in;
-
-// What intervals answer: how many records were written, that the list is not contiguous, or a refusal.
-pub enum IntervalsAnswer {
-    Records(usize),
-    NotContiguous,
-    Refused(Refusal),
-}
 
 // The intervals of a list that was taken in, whose `count` nodes stand in the scratch: 11 if the records do not fit the buffer.
 pub fn write_intervals(

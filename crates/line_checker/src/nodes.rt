@@ -10,21 +10,16 @@ ghost use Rattle.tables.specs.Recorded.{Recorded, Slotted};
 ghost use Rattle.tables.specs.Usable.{Usable};
 ghost use Rattle.tables.specs.UsableBy.{scratchAt};
 ghost use Rattle.tables.specs.Answered.{AnsweredInto};
-ghost use Rattle.line_checker.specs.Said.{nodesSaid};
+ghost use Rattle.answers.specs.Said.{nodesSaid};
 use super::room::copy_out;
 use super::room::node_room;
+use answers::NodesAnswer;
 use nodes_in::nodes_in;
 use records::Checked;
 use records::check_records;
 use records::record_refusal;
 use refusals::Refusal;
 use tables::Layout;
-
-// What nodes in records answer: how many were written, or a refusal.
-pub enum NodesAnswer {
-    Nodes(usize),
-    Refused(Refusal),
-}
 
 // The nodes in records that may be used: 11 if they do not fit the buffer.
 fn write_nodes(

@@ -14,19 +14,18 @@ use Rattle.paper.specs.Refusals.{Ruling, passed, refusal, Answer, answer, answe
 use Rattle.refusals.specs.Said.{ruling}
 use Rattle.refusals.proofs.Rulings.{ruling-answer, no-refusal, first-decides}
 use Rattle.port_conflict.specs.Marks.{PortsChecked}
-use Rattle.line_checker.specs.Said.{lineSaid}
-use Rattle.line_checker.specs.declared.line_check.LineAnswer.{LineAnswer}
-use Rattle.line_checker.specs.declared.line_check.LineAnswer.the-variants as Line
+use Rattle.answers.specs.Said.{lineSaid, topoSaid}
+use Rattle.answers.specs.declared.LineAnswer.{LineAnswer}
+use Rattle.answers.specs.declared.LineAnswer.the-variants as Line
 use Rattle.line_checker.proofs.RecordCalls.{said-after}
-use Rattle.line_checker.proofs.line_check.LineAnswer.{the-type as line-type}
-use Rattle.topo_checker.specs.Said.{topoSaid}
-use Rattle.topo_checker.specs.declared.TopoAnswer.{TopoAnswer}
-use Rattle.topo_checker.specs.declared.TopoAnswer.the-variants as Topo
-use Rattle.topo_checker.proofs.TopoAnswer.{the-type as topo-type}
 use Rattle.tables.specs.declared.Layout.{Layout}
 use Rattle.tables.specs.Answered.{Answered}
 use Rattle.tables.specs.Usable.{Usable, Scratched}
 use Rattle.tables.specs.Placed.{scratchSize}
+use Rattle.answers.proofs.LineAnswer.{the-type as line-type}
+use Rattle.answers.specs.declared.TopoAnswer.{TopoAnswer}
+use Rattle.answers.specs.declared.TopoAnswer.the-variants as Topo
+use Rattle.answers.proofs.TopoAnswer.{the-type as topo-type}
 use Rattle.tables.proofs.Within.{within-both, within-wider}
 use Rattle.with_ports.specs.AfterPorts.{afterPorts}
 

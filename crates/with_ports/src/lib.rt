@@ -11,16 +11,15 @@ ghost use Rattle.paper.specs.Walk.{lineCheck};
 ghost use Rattle.tables.specs.Answered.{Answered};
 ghost use Rattle.tables.specs.Usable.{Usable};
 ghost use Rattle.port_conflict.specs.Said.{portsSaid};
-ghost use Rattle.line_checker.specs.Said.{lineSaid};
-ghost use Rattle.topo_checker.specs.Said.{topoSaid};
+ghost use Rattle.answers.specs.Said.{lineSaid, topoSaid};
 ghost use Rattle.with_ports.specs.AfterPorts.{afterPorts};
-use line_checker::line_check::LineAnswer;
+use answers::LineAnswer;
+use answers::TopoAnswer;
 use line_checker::line_check::check_list;
 use port_conflict::PortsFound;
 use port_conflict::check_ports;
 use refusals::Refusal;
 use tables::Layout;
-use topo_checker::TopoAnswer;
 use topo_checker::check_order;
 
 // The line check's answer by what the ports come to: refusal 14, no with count 0 on a conflict, else what it was.

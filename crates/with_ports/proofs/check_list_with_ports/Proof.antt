@@ -3,7 +3,7 @@
 use mathlib.Core.Path.{ap}
 use Rattle.paper.specs.Intervals.{Reply}
 use Rattle.paper.specs.Walk.{lineCheck}
-use Rattle.line_checker.specs.Said.{lineSaid}
+use Rattle.answers.specs.Said.{lineSaid}
 use Rattle.with_ports.proofs.WithPorts.{line-passed, ports-fit, check-refused, then-ports}
 use borrow.Author.Needs.{needs}
 use Rattle.with_ports.proofs.check_list_with_ports.Statement.{statement}

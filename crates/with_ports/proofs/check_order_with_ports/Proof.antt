@@ -3,9 +3,9 @@
 use mathlib.Core.Path.{ap}
 use Rattle.paper.specs.Intervals.{Reply}
 use Rattle.paper.specs.OrderCheck.{orderCheck}
-use Rattle.topo_checker.specs.Said.{topoSaid}
 use Rattle.tables.proofs.Bridge.{by-numbers, scratched-at}
 use Rattle.line_checker.proofs.ByPlaces.{answered-at}
+use Rattle.answers.specs.Said.{topoSaid}
 use Rattle.with_ports.proofs.WithPorts.{order-passed, ports-fit, check-refused, then-ports}
 use borrow.Author.Needs.{needs}
 use Rattle.with_ports.proofs.check_order_with_ports.Statement.{statement}

@@ -33,7 +33,7 @@ walk-requires c κs =
     let told = c .before in
     let tested = told .before .before .before .before in
     let start = tested .before .before .before .before .before .before in (
-      by-numbers (still-usable (start .pre) (scratched-at (start .pre) (tested .check-records .ensures .kept))),
+      still-usable (start .pre) (scratched-at (start .pre) (tested .check-records .ensures .kept)),
       recorded-still (start .pre) (tested .check-records .ensures) (ap checkedSaid (told .enum-told .given .1)),
     )
 

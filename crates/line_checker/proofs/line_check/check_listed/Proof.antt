@@ -25,7 +25,7 @@ walk-requires c κs =
     let made = c .before .before in
     let found = made .before .before .before .before .before .before in
     let start = found .before .before .before .before .before .before in (
-      by-numbers (still-usable (start .pre .0) (scratched-at (start .pre .0) (found .get-intervals .ensures .kept))),
+      still-usable (start .pre .0) (scratched-at (start .pre .0) (found .get-intervals .ensures .kept)),
       recorded (start .pre .0) (start .pre .1) (found .get-intervals .ensures) (made .before .found .given .1),
     )
 
