@@ -53,7 +53,7 @@ module _ {b a : List ℕ} {at : Layout} {count : ℕ} (usable : Usable b a at) (
         ∙ getD-replicate (room .lines) x 0 0 h
         ∙ sym (none-counted x)
 
-    pub can-add-nodes : (rs : List ℕ) → 3 * room .lines ≤ length rs → AddingNodes at room c rs count
+    pub can-add-nodes : (rs : List ℕ) → 3 * (at .sizes .nodes + at .sizes .links) ≤ length rs → AddingNodes at room c rs count
     can-add-nodes rs roomy =
         record {
           bytes = b;
@@ -73,5 +73,5 @@ module _ {b a : List ℕ} {at : Layout} {count : ℕ} (usable : Usable b a at) (
                 counted = no-count;
                 sized = sized-none (room .lines);
               };
-          roomy = roomy;
+          roomy = omega (arith, fits .lines, roomy);
         }

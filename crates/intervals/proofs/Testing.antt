@@ -9,7 +9,7 @@ use lib.ListN.{length, getD, take, drop}
 use lib.Dec.{eqb}
 use borrow.Author.Tests.{le-ltb, lt-ltb}
 use Rattle.lists.specs.Lists.{member}
-use Rattle.lists.specs.Found.{at}
+use Rattle.lists.specs.Found.{at as standsAt}
 use Rattle.paper.specs.Lookup.{lookup}
 use Rattle.paper.specs.Records.{recordAt}
 use Rattle.lookup.specs.Line.{Line, positionsOn}
@@ -23,7 +23,7 @@ use Rattle.intervals.specs.Filling.{Tested, TestedRecord, countAt, fills
 
 -- ---- a line, where the lookup found the lowest
 
-module _ (nodes positions : List ℕ) (low high count : ℕ) {i : ℕ} (found : lookup (positionsOn nodes positions) low ≡ at i) where
+module _ (nodes positions : List ℕ) (low high count : ℕ) {i : ℕ} (found : lookup (positionsOn nodes positions) low ≡ standsAt i) where
   abbrev along : List ℕ
   along = positionsOn nodes positions
 

@@ -46,7 +46,7 @@ getD-interval hs i = List·getD-map (λ h. h .interval) hs i (fresh 0 0)
 
 module _ {b a : List ℕ} {at : Layout} {count : ℕ} (usable : Usable b a at) (listed : Listed a at count) {room : MapRoom} (fits : MapFits at room)
     {c : List ℕ} (is : c ≡ sets a (room .counts) (replicate (room .lines) 0)) {rs : List ℕ} {m ws : List ℕ} {made : ℕ}
-    (became : Became (addWords c at (listIn c at count)) room c rs 0 m ws made) (roomy : 3 * room .lines ≤ length rs) where
+    (became : Became (addWords c at (listIn c at count)) room c rs 0 m ws made) (roomy : 3 * (at .sizes .nodes + at .sizes .links) ≤ length rs) where
   abbrev list : List ℕ
   list = listIn a at count
 
@@ -67,7 +67,7 @@ module _ {b a : List ℕ} {at : Layout} {count : ℕ} (usable : Usable b a at) (
 
   pub can-test : TestedAll m at room ws made
   can-test =
-      can-test-all (cleared usable listed fits is) list (listing usable listed) fits holds scratched few (omega (arith, became .long))
+      can-test-all (cleared usable listed fits is) list (listing usable listed) fits holds scratched few (omega (arith, became .long, fits .lines))
 
   by-map : intervals b a list ≡ cond (all (fills b c) held) (records (map (λ h. h .interval) held)) apart
   by-map =
@@ -104,5 +104,5 @@ module _ {b a : List ℕ} {at : Layout} {count : ℕ} (usable : Usable b a at) (
       (Found made)
       (ap wrote (sym (length-map held (λ h. h .interval) ∙ holds .many)))
       (record-words (map (λ h. h .interval) held) ws (fresh 0 0 .interval)
-      (omega (arith, length-map held (λ h. h .interval), sized-room (holds .sized), became .long))
+      (omega (arith, length-map held (λ h. h .interval), sized-room (holds .sized), became .long, fits .lines))
       (λ i h. holds .records i (omega (arith, length-map held (λ h. h .interval))) ∙ sym (getD-interval held i)))

@@ -48,13 +48,7 @@ fn fills_record(area: &[u16], at: Layout, room: MapRoom, records: &[u16], i: usi
 }
 
 // Whether each of the `made` records is filled.
-pub fn all_filled(
-    area: &[u16],
-    at: Layout,
-    room: MapRoom,
-    records: &[u16],
-    made: usize,
-) -> bool
+pub fn all_filled(area: &[u16], at: Layout, room: MapRoom, records: &[u16], made: usize) -> bool
     requires { ⌜ TestedAll (now area) at room (now records) made ⌝ }
     ensures { λ r. ⌜ r ≡ all (fillsRecord (now (area .entry)) at room (now (records .entry))) (upto made) ⌝ }
 {

@@ -19,5 +19,9 @@ pub fn lay_map(at: Layout) -> MapRoom
     let lines = at.sizes.nodes + at.sizes.links;
     let slots = at.scratch + at.sizes.nodes;
     let counts = slots + lines;
-    MapRoom { lines: lines, slots: slots, counts: counts }
+    MapRoom {
+        lines: lines,
+        slots: slots,
+        counts: counts,
+    }
 }

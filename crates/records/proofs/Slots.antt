@@ -1,6 +1,7 @@
 -- What reading a line's mark, slot and record tells, and what a node's lines tell together: each way in which the reading ends.
--- Rests on Slots' definitions.
+-- Rests on Slots' definitions and paper's Area (how long an area is).
 use Prim.Native.Nat.{ℕ, _+_, _*_, _≤_, _<_}
+use native.Mathlib.Omega.{arith}
 use borrow.Author.Tests.{le-leb, lt-leb, ne-eqb, not-true, not-false}
 use mathlib.Core.Path.{_≡_, sym, ap, ap₂, _∙_, subst}
 use mathlib.Core.Logic.{_⊎_, inl, inr}
@@ -11,9 +12,18 @@ use lib.Dec.{eqb, leb}
 use Rattle.lists.specs.Lists.{any}
 use Rattle.paper.specs.Intervals.{within}
 use Rattle.paper.specs.Records.{recordAt}
+use Rattle.paper.proofs.Area.{W-sum}
 use Rattle.tables.specs.declared.Layout.{Layout}
+use Rattle.tables.specs.Placed.{scratchSize}
+use Rattle.tables.specs.Usable.{Usable}
 use Rattle.records.specs.declared.layout.LineSlots.{LineSlots}
 use Rattle.records.specs.Slots.{insideSlot, SlotAt, SlotsAt, linesHere, positionHere, NodeAt, insideHere, outsideHere, straddlesHere}
+
+-- in a usable area slots may be laid out
+pub slots-room : {b a : List ℕ} {at : Layout} → Usable b a at → at .scratch + scratchSize (at .sizes) ≤ 65536
+slots-room {b} usable = omega (arith, W-sum b, usable .read, usable .placed .whole, usable .placed .after-scratch)
+
+-- ---- one line
 
 module _ (a words : List ℕ) (slots : LineSlots) (q x : ℕ) {mark : ℕ} (is : mark ≡ getD a (slots .marks + x) 0) where
   -- the test by the mark and the record

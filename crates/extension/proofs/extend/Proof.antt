@@ -23,10 +23,12 @@ extend-lines-requires c κs =
     let read = c .before in
     let start = c .before .before .before .before .before .before .before .before .before .before .before in (
       start .pre .0,
-      (start .pre .1 .0,
-      lines-ready (start .pre .0) (start .pre .1 .1 .0) (start .pre .1 .1 .1 .0) (c .before .before .before .before .before .copy-words .ensures) (start .pre .1 .1 .1 .1 .0) (read .before .entries .ensures) (read .word-at .ensures)
-          (omega (arith, c .before .before .before .before .before .before .before .before .before .shared-slice-known2 .given (start .args .at .positions + start .args .v), read .word-at .ensures))
-          (start .pre .1 .1 .1 .1 .1)),
+      (
+        start .pre .1 .0,
+        lines-ready (start .pre .0) (start .pre .1 .1 .0) (start .pre .1 .1 .1 .0) (c .before .before .before .before .before .copy-words .ensures) (start .pre .1 .1 .1 .1 .0) (read .before .entries .ensures) (read .word-at .ensures)
+            (omega (arith, c .before .before .before .before .before .before .before .before .before .shared-slice-known2 .given (start .args .at .positions + start .args .v), read .word-at .ensures))
+            (start .pre .1 .1 .1 .1 .1),
+      ),
     )
 
 returns : tie.Need-returns
