@@ -20,6 +20,7 @@ use Rattle.convexity_theory.specs.places.Passed.{passing}
 use Rattle.convexity_theory.specs.places.Places.{nodeAt}
 use Rattle.convexity_theory.proofs.places.Listed.{member-place}
 use Rattle.convexity_theory.proofs.places.Together.{passing-is}
+use Rattle.answers.specs.Said.{topoSaid}
 use Rattle.tables.specs.declared.Layout.{Layout}
 use Rattle.tables.specs.Answered.{Answered}
 use Rattle.tables.specs.Placed.{scratchSize}
@@ -30,10 +31,10 @@ use Rattle.tables.proofs.Usable.{roomy, tables-still}
 use Rattle.topo_checker.specs.Listing.{Unlisted, listedSaid, ListTaken, markedPlaces}
 use Rattle.topo_checker.specs.Passing.{Fresh, MarkedBy, passingOver, MarkedChecked}
 use Rattle.topo_checker.specs.Room.{marksSize, Laid, LaidOut}
-use Rattle.topo_checker.specs.Said.{topoSaid, TakenAnswered}
+use Rattle.topo_checker.specs.Said.{TakenAnswered}
 use Rattle.topo_checker.specs.declared.layout.OrderRoom.{OrderRoom}
-use Rattle.topo_checker.specs.declared.TopoAnswer.{TopoAnswer}
-use Rattle.topo_checker.specs.declared.TopoAnswer.the-variants.{Yes, No, Refused}
+use Rattle.answers.specs.declared.TopoAnswer.{TopoAnswer}
+use Rattle.answers.specs.declared.TopoAnswer.the-variants.{Yes, No, Refused}
 use Rattle.refusals.specs.declared.Refusal.the-variants.{Unknown as UnknownNode}
 use Rattle.topo_checker.specs.declared.listing.Listed.{Listed}
 use Rattle.topo_checker.specs.declared.listing.Listed.the-variants.{Marked, Unknown}

@@ -75,9 +75,9 @@ pub number-fits : (x : ℕ) {links : ℕ} → links ≤ 2048 → x < links → F
 number-fits x few h = record { fits = omega arith }
 
 -- a test's answer is that of the place
-pub listed-so : (a : List ℕ) (marks first last : ℕ) {j place : ℕ} {s t : Bool} → j ≡ place → s ≡ isListed a marks first last j → s ≡ t
-    → isListed a marks first last place ≡ t
-listed-so a marks first last at said e = ap (isListed a marks first last) (sym at) ∙ sym said ∙ e
+pub listed-so : (b a : List ℕ) (room : OrderRoom) (x first last : ℕ) {j : ℕ} {s t : Bool} → j ≡ placeReached b a room x
+    → s ≡ isListed a (room .listed) first last j → s ≡ t → isListed a (room .listed) first last (placeReached b a room x) ≡ t
+listed-so b a room x first last is said e = ap (isListed a (room .listed) first last) (sym is) ∙ sym said ∙ e
 
 module _ {b a : List ℕ} {at : Layout} {room : OrderRoom} (laid : Laid b a at room) where
   module _ {m : List ℕ} (kept : Within (room .future) (at .sizes .nodes) a m) where

@@ -12,7 +12,9 @@ ghost use Rattle.tables.specs.Answered.{Answered};
 ghost use Rattle.tables.specs.Usable.{Usable};
 ghost use Rattle.topo_checker.specs.Passing.{Fresh};
 ghost use Rattle.topo_checker.specs.Room.{Laid};
-ghost use Rattle.topo_checker.specs.Said.{TakenAnswered, topoSaid};
+ghost use Rattle.answers.specs.Said.{topoSaid};
+ghost use Rattle.topo_checker.specs.Said.{TakenAnswered};
+use answers::TopoAnswer;
 use layout::OrderRoom;
 use layout::lay_out;
 use listing::Listed;
@@ -21,13 +23,6 @@ use listing::take_list_bytes;
 use passing::marked_convex;
 use refusals::Refusal;
 use tables::Layout;
-
-// What the order check answers.
-pub enum TopoAnswer {
-    Yes,
-    No,
-    Refused(Refusal),
-}
 
 // The answer once the list is taken in: its first unknown entry, or what its places say.
 fn answer_for(b: &[u8], at: Layout, area: &mut [u16], room: OrderRoom, taken: Listed) -> TopoAnswer

@@ -39,7 +39,7 @@ returns c =
     let turn = c .before .before .before in
     let args = turn .before .before .before .before .args in
     sym (any-true _ (args .count) (turn .before .loop .x) (turn .loop-test .taken)
-    (listed-so (args .area .now) (args .room .listed) (args .first) (args .last) (c .before .before .place-reached .ensures) (c .before .is-listed .ensures) (c .if1 .taken)))
+    (listed-so (args .b .now) (args .area .now) (args .room) (args .start + turn .before .loop .x) (args .first) (args .last) (c .before .before .place-reached .ensures) (c .before .is-listed .ensures) (c .if1 .taken)))
 
 loop-again : tie.Need-loop-again Inv-loop μ-loop
 loop-again c =
@@ -47,7 +47,7 @@ loop-again c =
     let args = turn .before .before .before .before .args in (
       omega (arith, turn .loop-test .taken),
       below-more _ (turn .before .loop .x) (turn .before .loop .inv .1)
-          (listed-so (args .area .now) (args .room .listed) (args .first) (args .last) (c .before .before .place-reached .ensures) (c .before .is-listed .ensures) (c .if1 .left)),
+          (listed-so (args .b .now) (args .area .now) (args .room) (args .start + turn .before .loop .x) (args .first) (args .last) (c .before .before .place-reached .ensures) (c .before .is-listed .ensures) (c .if1 .left)),
     )
 
 returns-2 : tie.Need-returns-2 Inv-loop μ-loop
