@@ -1,11 +1,10 @@
 -- What `why` says of a list: there is room for every path, so that 11 never comes and the words hold its steps.
 -- Rests on Areas, path_theory (how long a path can be) and text's Printed.
-use Prim.Native.Nat.{ℕ, _-_, _≤_, _<_}
-use native.Mathlib.Nat.{sub-zero}
+use Prim.Native.Nat.{ℕ, _≤_, _<_}
 use native.Mathlib.Omega.{arith}
 use mathlib.Core.Path.{_≡_, refl, sym, ap, ap₂, _∙_}
 use mathlib.Core.List.{List, [], _∷_, _++_, append-assoc}
-use lib.ListN.{length, take, length-take}
+use lib.ListN.{length}
 use lib.Seq.{sets}
 use Rattle.lists.proofs.Sections.{part-sets-in}
 use Rattle.paper.specs.Refusals.{Ruling, passed, refusal, rule11, decide, Answer, answered, answer, onRefusal}
@@ -14,36 +13,14 @@ use Rattle.paper.specs.Calls.{opening, lineRules, callInto, pathAnswer, showPat
 use Rattle.paper.specs.Text.{showWay, whySays}
 use Rattle.stepmap.proofs.Reading.{limits}
 use Rattle.convexity_theory.proofs.trust.Rules.{rule11-passes}
+use Rattle.convexity_theory.proofs.trust.Agree.{passing-last}
 use Rattle.path_theory.proofs.levels.Bounds.{few-steps}
 use Rattle.text.specs.Printed.{Put}
 use Rattle.asking.specs.Standing.{preparedArea, Standing}
 use Rattle.asking.specs.Printed.{Printed}
-use Rattle.back_path.specs.declared.showing.PathAnswer.{PathAnswer}
-use Rattle.back_path.specs.declared.showing.PathAnswer.the-variants.{Path as pathOf}
-use Rattle.back_path.specs.Said.{pathSaid}
-use Rattle.asking.specs.Ways.{wayIn, stepsShown}
+use Rattle.wording.specs.Shown.{wayIn, stepsShown}
 use Rattle.asking.proofs.Areas.{path-asked}
 use Rattle.asking.proofs.Texts.{shown-as}
-
--- a rule that passes at the end changes nothing
-last-passes : (us : List Ruling) {u : Ruling} → u ≡ passed → decide (us ++ (u ∷ [])) ≡ decide us
-unfolding decide
-last-passes [] e = ap (λ (u : Ruling). decide (u ∷ [])) e
-last-passes (passed ∷ us) e = last-passes us e
-last-passes (refusal n p ∷ us) e = refl
-
--- ---- the part of the words in which the steps stand
-
-module _ (words : List ℕ) {a : PathAnswer} {count : ℕ} (e : a ≡ pathOf count) where
-  pub count-within : stepsShown (pathSaid a) ≤ length words → count ≤ length words
-  count-within h = omega (arith, ap (λ (a : PathAnswer). stepsShown (pathSaid a)) e)
-
-  pub part-within : length (take (count - 0) words) ≤ length words
-  part-within = omega (arith, length-take (count - 0) words)
-
-  -- .. from 0 up to the count
-  pub part-is : wayIn (pathSaid a) words ≡ answered (path (take (count - 0) words))
-  part-is = ap (λ (a : PathAnswer). wayIn (pathSaid a) words) e ∙ ap (λ (k : ℕ). answered (path (take k words))) (sym (sub-zero count))
 
 -- ---- what is said of a path that has room, and written
 
@@ -71,7 +48,8 @@ module _ (b a list buffer : List ℕ) (fits : length (stepsOf (backPath b list))
       ≡ decide (opening b a ++ lineRules b list)
   never-11 =
       ap decide (sym (append-assoc (opening b a) (lineRules b list) (rule11 (length buffer) (length (stepsOf (backPath b list))) ∷ [])))
-      ∙ last-passes (opening b a ++ lineRules b list) (rule11-passes (length buffer) (length (stepsOf (backPath b list))) .1 fits)
+      ∙ passing-last (opening b a ++ lineRules b list) (rule11 (length buffer) (length (stepsOf (backPath b list))) ∷ [])
+      (ap (λ (u : Ruling). decide (u ∷ [])) (rule11-passes (length buffer) (length (stepsOf (backPath b list))) .1 fits))
 
   way-answered : wayIn (showPath b a list buffer .answer) (showPath b a list buffer .buffer) ≡ pathAnswer b a list
   unfolding showPath callInto pathAnswer

@@ -21,17 +21,18 @@ use Rattle.paper.specs.Text.{newline, linesIn, showRefused, sayLines, firstOutp
 use Rattle.paper.proofs.Promise.{never-answered}
 use Rattle.text.specs.Printed.{Put, firstLine}
 use Rattle.text.proofs.Printed.{first-is, first-short}
-use Rattle.convex.specs.Said.{preparedSaid}
-use Rattle.convex.specs.declared.prepare.Prepared.{Prepared}
-use Rattle.convex.specs.declared.prepare.Prepared.the-variants.{Lines, Refused}
-use Rattle.convex.proofs.prepare.Prepared.{the-type}
+use Rattle.answers.specs.Said.{preparedSaid}
+use Rattle.answers.specs.declared.Prepared.{Prepared}
+use Rattle.answers.specs.declared.Prepared.the-variants.{Lines, Refused}
+use Rattle.answers.proofs.Prepared.{the-type}
 use Rattle.asking.specs.Standing.{preparedArea, Standing}
 use Rattle.asking.specs.Says.{Says}
 use Rattle.asking.specs.Printed.{Shown}
-use Rattle.asking.specs.Begun.{refusedLine, Opened, Begun, whole, first}
+use Rattle.wording.specs.Shown.{refusedLine}
+use Rattle.asking.specs.Begun.{Opened, Begun, whole, first}
 use Rattle.asking.specs.declared.beginning.Beginning.{Beginning}
 use Rattle.asking.specs.declared.beginning.Beginning.the-variants.{Whole, First}
-use Rattle.asking.proofs.Texts.{shown-as, refused-line-short}
+use Rattle.asking.proofs.Texts.{shown-as}
 use Rattle.asking.proofs.Prepares.{same-answer, count-said, trailer-there, standing-there}
 
 -- ---- the output by the map's length, preparing's answer and the input's length
@@ -121,12 +122,6 @@ module _ (b input a : List ℕ) {m : List ℕ} (r : Prepared) (small : length b 
               subst (Standing b) (sym (ap (λ (left : Left ℕ). left .area) answered-so))
               (standing-there b a counted-here (same-answer b a room));
         }
-
--- a map's refusal takes no more room than any
-pub refused-map-short : (x : Answer ℕ) → length (refusedLine x) ≤ 50
-unfolding refusedLine
-refused-map-short (refused n p) = refused-line-short n p
-refused-map-short (answered k) = omega arith
 
 -- ---- what `begin` answered
 

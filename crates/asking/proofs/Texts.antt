@@ -16,40 +16,21 @@ use Rattle.text.specs.Printed.{Put}
 use Rattle.text.specs.Lists.{readSaid, howMany, ReadInto}
 use Rattle.text.specs.declared.reader.ListRead.{ListRead}
 use Rattle.text.specs.declared.reader.ListRead.the-variants.{Numbers, Bad}
-use Rattle.text.proofs.Printed.{put-then, refused-short, line-short, order-short}
+use Rattle.text.proofs.Printed.{put-then}
+use Rattle.wording.specs.Shown.{bothChecks}
+use Rattle.wording.proofs.Texts.{put-as, refused-line-short, both-short}
 use Rattle.asking.specs.Standing.{preparedArea, Standing}
 use Rattle.asking.specs.Says.{Says}
-use Rattle.asking.specs.Printed.{bothChecks, Shown, Printed}
+use Rattle.asking.specs.Printed.{Shown, Printed}
 use Rattle.asking.proofs.Areas.{line-asked, order-asked}
 
--- a text put by another name
-pub put-as : {l m us vs : List ℕ} {at e : ℕ} → us ≡ vs → Put l at vs m e → Put l at us m e
-put-as q p = rw q p
-
--- .. and its place in the lent bytes
+-- a text put by another name, and its place in the lent bytes
 pub shown-as : {l m us vs : List ℕ} {e : ℕ} → us ≡ vs → Put l 0 vs m e → length vs ≤ length l → Shown us l m e
 shown-as {l} {m} {us} {vs} q p short =
     record { put = put-as q p; within = omega (arith, p .ends, ap length (p .stands), length-sets l 0 vs) }
 
 pub printed-as : {b a us vs l m : List ℕ} {e : ℕ} → us ≡ vs → Printed b a vs l m e → Printed b a us l m e
 printed-as q p = rw q p
-
--- ---- how much room the lines take
-
-pub refused-line-short : (n p : ℕ) → length (showRefused n p ++ (newline ∷ [])) ≤ 50
-refused-line-short n p = omega (arith, refused-short n p, length-append (showRefused n p) (newline ∷ []))
-
-pub both-short : (x : Answer (Reply × ℕ)) (y : Answer Reply) → length (bothChecks x y) ≤ 110
-unfolding bothChecks
-both-short x y =
-    omega (
-      arith,
-      line-short x,
-      order-short y,
-      length-append (ascii "line " ++ showLine x ++ ascii " order ") (showOrder y),
-      length-append (ascii "line " ++ showLine x) (ascii " order "),
-      length-append (ascii "line ") (showLine x),
-    )
 
 -- ---- the checks and the reader
 

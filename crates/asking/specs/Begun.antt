@@ -2,21 +2,15 @@
 -- Rests on paper's Text, Printed and Standing.
 use Prim.Native.Nat.{ℕ, _≤_}
 use mathlib.Core.Path.{_≡_}
-use mathlib.Core.List.{List, [], _∷_, _++_}
+use mathlib.Core.List.{List, _++_}
 use lib.ListN.{length}
 use Rattle.paper.specs.Lines.{tables}
-use Rattle.paper.specs.Refusals.{Answer, refused, answered}
-use Rattle.paper.specs.Text.{newline, linesIn, showRefused, sayLines, firstOutput, output}
+use Rattle.paper.specs.Text.{linesIn, sayLines, firstOutput, output}
 use Rattle.asking.specs.Standing.{preparedArea, Standing}
 use Rattle.asking.specs.Says.{Says}
 use Rattle.asking.specs.Printed.{Shown}
 use Rattle.asking.specs.declared.beginning.Beginning.{Beginning}
 use Rattle.asking.specs.declared.beginning.Beginning.the-variants.{Whole, First}
-
--- "A refused map prints only `refused`, number, place"
-unfoldable pub refusedLine : Answer ℕ → List ℕ
-refusedLine (refused n p) = showRefused n p ++ (newline ∷ [])
-refusedLine (answered k) = []
 
 -- the first line is put, and the lists are what is left of the output, whatever a program says of them
 pub record Opened (b input before after area : List ℕ) (end : ℕ) : Type 0 where

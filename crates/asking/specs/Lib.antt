@@ -1,6 +1,5 @@
 pub mod Standing
 pub mod Says
-pub mod Ways
 pub mod Printed
 pub mod Begun
 pub mod Turns

@@ -1,33 +1,19 @@
 // How the output begins: one line that is all of it, or the first line, after which come the lists.
-use convex::prepare::Prepared;
+use answers::Prepared;
 use convex::prepare::prepare;
-use refusals::number;
-use refusals::place;
 use stepmap::read::link_count;
 use stepmap::read::node_count;
 use text::printer::put_first;
 use text::printer::put_refused_line;
+use wording::put_unprepared;
 ghost use Prim.Native.Nat.{_≤_};
 ghost use lib.ListN.{length};
-ghost use Rattle.text.specs.Printed.{Put};
-ghost use Rattle.convex.specs.Said.{preparedSaid};
-ghost use Rattle.asking.specs.Begun.{Begun, refusedLine};
+ghost use Rattle.asking.specs.Begun.{Begun};
 
 // What was put, as where it ends: the whole output, or its first line.
 pub enum Beginning {
     Whole(usize),
     First(usize),
-}
-
-// Puts the refusal of a map; a map that is prepared has none.
-fn put_unprepared(out: &mut [u8], answer: Prepared) -> usize
-    requires { ⌜ 50 ≤ length (now out) ⌝ }
-    ensures { λ r. ⌜ Put (now (out .entry)) 0 (refusedLine (preparedSaid answer)) (now (out .exit)) r ⌝ }
-{
-    let Prepared::Refused(x) = answer else {
-        return 0;
-    };
-    put_refused_line(out, 0, number(x), place(x))
 }
 
 // Prepares the area for the map. The map's length comes first, then its refusal, then the input's length.

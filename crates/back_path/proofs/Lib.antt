@@ -3,4 +3,3 @@ pub mod Written
 pub mod Told
 pub mod Answers
 pub mod Listing
-pub mod Apart

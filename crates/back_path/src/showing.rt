@@ -1,5 +1,6 @@
 // The question on an opened area: refusals 8, 9, 10, then 11.
 use super::writing::write_path;
+use answers::PathAnswer;
 use distances::closing::Closing;
 use distances::closing::close;
 use distances::queue::mark_list;
@@ -17,14 +18,7 @@ ghost use Rattle.intervals.specs.Answer.{listIn};
 ghost use Rattle.intervals.specs.Holds.{Listed};
 ghost use Rattle.tables.specs.AnsweredBy.{AnsweredInto};
 ghost use Rattle.tables.specs.UsableBy.{Usable, scratchAt};
-ghost use Rattle.back_path.specs.Said.{pathSaid};
-
-// What showing the path answers: how many steps it has, which stand in the buffer; that there is none; or a refusal.
-pub enum PathAnswer {
-    Path(usize),
-    NoPath,
-    Refused(Refusal),
-}
+ghost use Rattle.answers.specs.Said.{pathSaid};
 
 // The path of a list that was taken in, whose `count` nodes stand in the scratch: 11 if it does not fit the buffer.
 pub fn show_listed(

@@ -10,20 +10,19 @@ ghost use Rattle.paper.specs.Calls.{
   viewAt,
 };
 ghost use Rattle.paper.specs.Words.{wordsFrom};
-ghost use Rattle.line_checker.specs.Said.{lineSaid, intervalsSaid, extendSaid, nodesSaid};
-ghost use Rattle.convex.specs.Said.{portLinesSaid};
+ghost use Rattle.answers.specs.Said.{extendSaid, intervalsSaid, lineSaid, nodesSaid, portLinesSaid};
 ghost use Rattle.byte_calls.specs.Buffered.{buffered};
+use answers::ExtendAnswer;
+use answers::IntervalsAnswer;
+use answers::LineAnswer;
+use answers::NodesAnswer;
+use answers::PortLines;
 use byte_lists::check_list_bytes;
 use byte_lists::intervals_of_list_bytes;
 use byte_ports::check_list_with_ports_bytes;
 use byte_records::check_by_records_bytes;
 use byte_records::extend_records_bytes;
 use byte_records::nodes_of_records_bytes;
-use convex::line_convex_checker::PortLines;
-use line_checker::extend::ExtendAnswer;
-use line_checker::line_check::LineAnswer;
-use line_checker::list_intervals::IntervalsAnswer;
-use line_checker::nodes::NodesAnswer;
 use opening::Opened;
 use opening::ends::clear_scratch;
 use opening::ends::refusal;

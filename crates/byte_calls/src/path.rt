@@ -2,9 +2,9 @@
 ghost use mathlib.Core.Path.{_≡_};
 ghost use Rattle.paper.specs.Calls.{showPath};
 ghost use Rattle.paper.specs.Words.{wordsFrom};
-ghost use Rattle.back_path.specs.Said.{pathSaid};
+ghost use Rattle.answers.specs.Said.{pathSaid};
 ghost use Rattle.byte_calls.specs.Buffered.{buffered};
-use back_path::showing::PathAnswer;
+use answers::PathAnswer;
 use byte_lists::show_path_of_list_bytes;
 use opening::Opened;
 use opening::ends::clear_scratch;

@@ -2,13 +2,13 @@
 ghost use mathlib.Core.Path.{_≡_};
 ghost use Rattle.paper.specs.Calls.{topoIsConvex, topoIsNodeConvex};
 ghost use Rattle.paper.specs.Words.{wordsFrom};
-ghost use Rattle.topo_checker.specs.Said.{topoSaid};
+ghost use Rattle.answers.specs.Said.{topoSaid};
+use answers::TopoAnswer;
 use byte_ports::check_order_with_ports_bytes;
 use opening::Opened;
 use opening::ends::clear_scratch;
 use opening::ends::refusal;
 use opening::open;
-use topo_checker::TopoAnswer;
 use topo_checker::check_order_bytes;
 
 // Order check of a list in bytes.

@@ -1,4 +1,3 @@
-pub mod Answers
 pub mod Calling
 pub mod LineCalls
 pub mod PathCalls

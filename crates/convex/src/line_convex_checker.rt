@@ -14,17 +14,17 @@ ghost use Rattle.paper.specs.Calls.{
   viewOfPort,
 };
 ghost use Rattle.paper.specs.Promise.{KnownPorts, LinePortsPromise, LinePromise, StepList, Trusted};
-ghost use Rattle.line_checker.specs.Said.{lineSaid, intervalsSaid, extendSaid, nodesSaid};
+ghost use Rattle.answers.specs.Said.{extendSaid, intervalsSaid, lineSaid, nodesSaid, portLinesSaid};
 ghost use Rattle.port_lines.specs.Place.{StartsAt};
-ghost use Rattle.convex.specs.Said.{portLinesSaid};
-use line_checker::extend::ExtendAnswer;
+use answers::ExtendAnswer;
+use answers::IntervalsAnswer;
+use answers::LineAnswer;
+use answers::NodesAnswer;
+use answers::PortLines;
 use line_checker::extend::extend_records;
-use line_checker::line_check::LineAnswer;
 use line_checker::line_check::check_by_records;
 use line_checker::line_check::check_list;
-use line_checker::list_intervals::IntervalsAnswer;
 use line_checker::list_intervals::intervals_of_list;
-use line_checker::nodes::NodesAnswer;
 use line_checker::nodes::nodes_of_records;
 use opening::Opened;
 use opening::ends::clear_scratch;
@@ -183,12 +183,6 @@ pub fn nodes_in_intervals(
     let found = nodes_of_records(map, nodes, links, ports, area, records, count, buffer);
     clear_scratch(area, nodes, links, ports);
     found
-}
-
-// What lines at a port answer: the first one's place in its node's list and the count, or a refusal.
-pub enum PortLines {
-    At(usize, usize),
-    Refused(Refusal),
 }
 
 // Lines at a port: the first one's place in its node's list, and how many (the Rust's `lines_at_port`). Refusals 1 to 5, 7, 14.

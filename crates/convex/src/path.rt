@@ -2,8 +2,8 @@
 ghost use mathlib.Core.Path.{_≡_};
 ghost use Rattle.paper.specs.Calls.{showPath};
 ghost use Rattle.paper.specs.Promise.{PathPromise, StepList, Trusted};
-ghost use Rattle.back_path.specs.Said.{pathSaid};
-use back_path::showing::PathAnswer;
+ghost use Rattle.answers.specs.Said.{pathSaid};
+use answers::PathAnswer;
 use back_path::showing::show_path_of_list;
 use opening::Opened;
 use opening::ends::clear_scratch;

@@ -2,18 +2,13 @@
 // refuses what 01 refuses, and leaves its tables in a lent area.
 ghost use mathlib.Core.Path.{_≡_};
 ghost use Rattle.paper.specs.Calls.{prepare};
-ghost use Rattle.convex.specs.Said.{preparedSaid};
+ghost use Rattle.answers.specs.Said.{preparedSaid};
+use answers::Prepared;
 use line_tables::lay_lines;
 use refusals::Refusal;
 use toposort::ordering::Ordered;
 use toposort::ordering::order_map;
 use toposort::ordering::refusal;
-
-// What preparing answers: how many lines there are, or refusals 1 to 6.
-pub enum Prepared {
-    Lines(usize),
-    Refused(Refusal),
-}
 
 // Prepares an area for any map (the Rust's `LineConvexChecker::new`): refusals 1 to 6 in their order, or the tables of the map's lines.
 pub fn prepare(map: &[u8], area: &mut [u16]) -> Prepared

@@ -3,12 +3,12 @@
 ghost use mathlib.Core.Path.{_≡_};
 ghost use Rattle.paper.specs.Calls.{topoIsConvex, topoIsNodeConvex};
 ghost use Rattle.paper.specs.Promise.{KnownPorts, KnownSteps, OrderPortsPromise, OrderPromise, Trusted};
-ghost use Rattle.topo_checker.specs.Said.{topoSaid};
+ghost use Rattle.answers.specs.Said.{topoSaid};
+use answers::TopoAnswer;
 use opening::Opened;
 use opening::ends::clear_scratch;
 use opening::ends::refusal;
 use opening::open;
-use topo_checker::TopoAnswer;
 use topo_checker::check_order;
 use with_ports::check_order_with_ports;
 

@@ -1,4 +1,4 @@
-pub mod Answers
+pub mod ByPlaces
 pub mod Records
 pub mod LineCheck
 pub mod Into

@@ -7,6 +7,7 @@ pub mod Reading
 pub mod Keeping
 pub mod Sorting
 pub mod Laying
+pub mod Passing
 pub mod ReadingBy
 pub mod KeepingBy
 pub mod LayingBy

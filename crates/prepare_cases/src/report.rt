@@ -1,7 +1,7 @@
 // What is written of a case: the answer, and then the area's words, section by section.
 // Four or more equal words in a row are written once with how many they are, as `0*6`. A section of more than 80 words
 // that are not all equal is written as how many they are, how many are not 0, and their checksum.
-use convex::prepare::Prepared;
+use answers::Prepared;
 use libc::STDOUT_FILENO;
 use refusals::number as number_of;
 use refusals::place as place_of;

@@ -1,12 +1,13 @@
 // Answers held against the rest of a line: case, values, number and place, as the exports tell them, and the words of a buffer or a view.
 use crate::comparing::is_told;
 use crate::comparing::is_told_with;
-use convex::line_convex_checker::PortLines;
-use convex::prepare::Prepared;
-use line_checker::extend::ExtendAnswer;
-use line_checker::line_check::LineAnswer;
-use line_checker::list_intervals::IntervalsAnswer;
-use line_checker::nodes::NodesAnswer;
+use answers::ExtendAnswer;
+use answers::IntervalsAnswer;
+use answers::LineAnswer;
+use answers::NodesAnswer;
+use answers::PortLines;
+use answers::Prepared;
+use answers::TopoAnswer;
 use telling::tell_extended;
 use telling::tell_intervals;
 use telling::tell_line;
@@ -14,14 +15,11 @@ use telling::tell_nodes;
 use telling::tell_order;
 use telling::tell_port;
 use telling::tell_prepared;
-use topo_checker::TopoAnswer;
 ghost use mathlib.Core.Path.{_≡_};
 ghost use Prim.Native.Nat.{_≤_};
 ghost use lib.ListN.{length, drop};
 ghost use Rattle.lists.specs.Lists.{same};
-ghost use Rattle.line_checker.specs.Said.{extendSaid, intervalsSaid, lineSaid, nodesSaid};
-ghost use Rattle.topo_checker.specs.Said.{topoSaid};
-ghost use Rattle.convex.specs.Said.{portLinesSaid, preparedSaid};
+ghost use Rattle.answers.specs.Said.{extendSaid, intervalsSaid, lineSaid, nodesSaid, portLinesSaid, preparedSaid, topoSaid};
 ghost use Rattle.recorded.specs.Answers.{countWords, lineWords, orderWords, pairWords, withList, writtenWords};
 
 // Whether the rest is what preparing answers.

@@ -4,21 +4,18 @@ ghost use mathlib.Core.Path.{_≡_};
 ghost use mathlib.Core.List.{[], _∷_};
 ghost use Rattle.paper.specs.Exports.{inCount, inLineReply, inPair, inReply, inShown, inWritten, tell};
 ghost use Rattle.refusals.specs.Said.{numberOf, placeOf};
-ghost use Rattle.line_checker.specs.Said.{extendSaid, intervalsSaid, lineSaid, nodesSaid};
-ghost use Rattle.topo_checker.specs.Said.{topoSaid};
-ghost use Rattle.convex.specs.Said.{portLinesSaid, preparedSaid};
-ghost use Rattle.back_path.specs.Said.{pathSaid};
-use back_path::showing::PathAnswer;
-use convex::line_convex_checker::PortLines;
-use convex::prepare::Prepared;
-use line_checker::extend::ExtendAnswer;
-use line_checker::line_check::LineAnswer;
-use line_checker::list_intervals::IntervalsAnswer;
-use line_checker::nodes::NodesAnswer;
+ghost use Rattle.answers.specs.Said.{extendSaid, intervalsSaid, lineSaid, nodesSaid, pathSaid, portLinesSaid, preparedSaid, topoSaid};
+use answers::ExtendAnswer;
+use answers::IntervalsAnswer;
+use answers::LineAnswer;
+use answers::NodesAnswer;
+use answers::PathAnswer;
+use answers::PortLines;
+use answers::Prepared;
+use answers::TopoAnswer;
 use refusals::Refusal;
 use refusals::number as number_of;
 use refusals::place as place_of;
-use topo_checker::TopoAnswer;
 
 // A number for a host.
 fn put(value: &mut u64, x: usize)

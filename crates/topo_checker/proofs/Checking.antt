@@ -27,9 +27,10 @@ use Rattle.tables.proofs.UsableBy.{roomy, tables-still, still-usable}
 use Rattle.topo_checker.specs.Layout.{marksAt, Laid, LaidOut}
 use Rattle.topo_checker.specs.Listing.{Unlisted, listedSaid, ListTaken, markedPlaces}
 use Rattle.topo_checker.specs.Passing.{Fresh, MarkedBy, passingOver, MarkedChecked}
-use Rattle.topo_checker.specs.Said.{topoSaid, TakenAnswered}
-use Rattle.topo_checker.specs.declared.TopoAnswer.{TopoAnswer}
-use Rattle.topo_checker.specs.declared.TopoAnswer.the-variants.{Yes, No, Refused}
+use Rattle.answers.specs.Said.{topoSaid}
+use Rattle.topo_checker.specs.Said.{TakenAnswered}
+use Rattle.answers.specs.declared.TopoAnswer.{TopoAnswer}
+use Rattle.answers.specs.declared.TopoAnswer.the-variants.{Yes, No, Refused}
 use Rattle.refusals.specs.declared.Refusal.the-variants.{Unknown as UnknownNode}
 use Rattle.topo_checker.specs.declared.listing.Listed.{Listed}
 use Rattle.topo_checker.specs.declared.listing.Listed.the-variants.{Marked, Unknown}

@@ -1,23 +1,16 @@
--- 01's number, place and reply for each answer.
--- Rests on refusals' Said and Passing.
+-- What the check says of a list once it is taken in.
+-- Rests on answers' Said, Listing and Passing.
 use Prim.Native.Nat.{ℕ, _+_}
 use mathlib.Core.Path.{_≡_}
 use mathlib.Core.List.{List}
-use Rattle.paper.specs.Intervals.{Reply}
-use Rattle.paper.specs.Refusals.{passed, Answer, answer, answered}
-use Rattle.refusals.specs.Said.{refusedBy}
+use Rattle.paper.specs.Refusals.{passed, answer}
+use Rattle.answers.specs.Said.{topoSaid}
+use Rattle.answers.specs.declared.TopoAnswer.{TopoAnswer}
 use Rattle.tables.specs.Within.{Within}
 use Rattle.topo_checker.specs.Layout.{marksAt}
 use Rattle.topo_checker.specs.Listing.{listedSaid}
 use Rattle.topo_checker.specs.Passing.{MarkedBy, passingOver}
 use Rattle.topo_checker.specs.declared.listing.Listed.{Listed}
-use Rattle.topo_checker.specs.declared.TopoAnswer.{TopoAnswer}
-use Rattle.topo_checker.specs.declared.TopoAnswer.the-variants.{Yes, No, Refused}
-
-abbrev pub topoSaid : TopoAnswer → Answer Reply
-topoSaid Yes = answered Reply.Yes
-topoSaid No = answered Reply.No
-topoSaid (Refused x) = refusedBy x
 
 -- what a list that is taken in comes to, by its places
 pub record TakenAnswered (b a : List ℕ) (n l p : ℕ) (taken : Listed) (r : TopoAnswer) (m : List ℕ) : Type 0 where

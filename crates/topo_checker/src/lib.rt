@@ -12,20 +12,15 @@ ghost use Rattle.tables.specs.AnsweredBy.{Answered};
 ghost use Rattle.tables.specs.UsableBy.{Usable};
 ghost use Rattle.topo_checker.specs.Layout.{Laid};
 ghost use Rattle.topo_checker.specs.Passing.{Fresh};
-ghost use Rattle.topo_checker.specs.Said.{TakenAnswered, topoSaid};
+ghost use Rattle.answers.specs.Said.{topoSaid};
+ghost use Rattle.topo_checker.specs.Said.{TakenAnswered};
+use answers::TopoAnswer;
 use layout::lay_out;
 use listing::Listed;
 use listing::take_list;
 use listing::take_list_bytes;
 use passing::marked_convex;
 use refusals::Refusal;
-
-// What the order check answers.
-pub enum TopoAnswer {
-    Yes,
-    No,
-    Refused(Refusal),
-}
 
 // The answer once the list is taken in: its first unknown entry, or what its places say.
 fn answer_for(b: &[u8], n: usize, l: usize, p: usize, area: &mut [u16], taken: Listed) -> TopoAnswer

@@ -4,7 +4,7 @@ use mathlib.Core.Path.{ap}
 use Rattle.paper.specs.Intervals.{Reply}
 use Rattle.paper.specs.Walk.{lineCheck}
 use Rattle.paper.specs.Words.{wordsFrom}
-use Rattle.line_checker.specs.Said.{lineSaid}
+use Rattle.answers.specs.Said.{lineSaid}
 use Rattle.with_ports.proofs.WithPorts.{line-passed, ports-fit, check-refused, then-ports}
 use borrow.Author.Needs.{needs}
 use Rattle.byte_ports.proofs.check_list_with_ports_bytes.Statement.{statement}

@@ -4,7 +4,7 @@ use mathlib.Core.Path.{ap}
 use Rattle.paper.specs.Intervals.{Reply}
 use Rattle.paper.specs.OrderCheck.{orderCheck}
 use Rattle.paper.specs.Words.{wordsFrom}
-use Rattle.topo_checker.specs.Said.{topoSaid}
+use Rattle.answers.specs.Said.{topoSaid}
 use Rattle.with_ports.proofs.WithPorts.{order-passed, ports-fit, check-refused, then-ports}
 use borrow.Author.Needs.{needs}
 use Rattle.byte_ports.proofs.check_order_with_ports_bytes.Statement.{statement}

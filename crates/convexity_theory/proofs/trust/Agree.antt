@@ -55,7 +55,7 @@ module _ {b a list : List ℕ} (t : Trusted b a) (s : StepList b list) where
 -- ---- with ports
 
 -- rules that pass change nothing
-passing-last : (us vs : List Ruling) → decide vs ≡ passed → decide (us ++ vs) ≡ decide us
+pub passing-last : (us vs : List Ruling) → decide vs ≡ passed → decide (us ++ vs) ≡ decide us
 unfolding decide
 passing-last [] vs e = e
 passing-last (passed ∷ us) vs e = passing-last us vs e

@@ -2,7 +2,7 @@
 -- Rests on Told.
 use mathlib.Core.Path.{refl, ap}
 use Rattle.paper.specs.Exports.{inReply}
-use Rattle.topo_checker.specs.Said.{topoSaid}
+use Rattle.answers.specs.Said.{topoSaid}
 use Rattle.telling.proofs.Told.{refusal-told, answer-told}
 use borrow.Author.Needs.{needs}
 use Rattle.telling.proofs.tell_order.Statement.{statement}

@@ -4,7 +4,7 @@ use Prim.Native.Nat.{ℕ}
 use mathlib.Core.List.{[], _∷_}
 use mathlib.Core.Path.{refl, ap}
 use Rattle.paper.specs.Exports.{inShown}
-use Rattle.back_path.specs.Said.{pathSaid}
+use Rattle.answers.specs.Said.{pathSaid}
 use Rattle.telling.proofs.Told.{refusal-told, answer-told}
 use borrow.Author.Needs.{needs}
 use Rattle.telling.proofs.tell_path.Statement.{statement}

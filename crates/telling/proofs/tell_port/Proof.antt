@@ -4,7 +4,7 @@ use Prim.Native.Nat.{ℕ}
 use mathlib.Core.List.{[], _∷_}
 use mathlib.Core.Path.{refl, ap, ap₂}
 use Rattle.paper.specs.Exports.{inPair}
-use Rattle.convex.specs.Said.{portLinesSaid}
+use Rattle.answers.specs.Said.{portLinesSaid}
 use Rattle.telling.proofs.Told.{refusal-told, answer-told}
 use borrow.Author.Needs.{needs}
 use Rattle.telling.proofs.tell_port.Statement.{statement}

@@ -3,7 +3,7 @@
 use mathlib.Core.Path.{ap}
 use Rattle.paper.specs.Intervals.{Reply}
 use Rattle.paper.specs.Walk.{lineCheck}
-use Rattle.line_checker.specs.Said.{lineSaid}
+use Rattle.answers.specs.Said.{lineSaid}
 use Rattle.with_ports.proofs.WithPorts.{line-passed, ports-fit, check-refused, then-ports}
 use borrow.Author.Needs.{needs}
 use Rattle.with_ports.proofs.check_list_with_ports.Statement.{statement}
@@ -34,5 +34,4 @@ returns-2 c = check-refused (c .before .before .before .before .check-list .ensu
 pub check-list-with-ports-spec : {M : Type 1} → statement M
 check-list-with-ports-spec =
     tie.close
-    (tie.spec (λ c κs. search needs) (search needs) (search needs) (search needs) (search needs) (search needs) check-ports-requires
-    (λ c κs. search needs) (search needs) returns (search needs) returns-2)
+    (tie.spec (λ c κs. search needs) (search needs) check-ports-requires (λ c κs. search needs) (search needs) returns (search needs) returns-2)

@@ -1,8 +1,8 @@
 -- `asking::checks::say_checks` meets its contract: both checks answer as in the prepared area, and leave one that stands for it.
 -- Rests on Texts.
-use Rattle.asking.proofs.Texts.{both-asked, both-short}
-use Rattle.line_checker.specs.Said.{lineSaid}
-use Rattle.topo_checker.specs.Said.{topoSaid}
+use Rattle.wording.proofs.Texts.{both-short}
+use Rattle.asking.proofs.Texts.{both-asked}
+use Rattle.answers.specs.Said.{lineSaid, topoSaid}
 use native.Mathlib.Omega.{arith}
 use borrow.Author.Needs.{needs}
 use Rattle.asking.proofs.checks.say_checks.Statement.{statement}
