@@ -1,9 +1,9 @@
 -- The map's links by output port as they stand in the area, and the queue with its counters after some turns.
 -- Rests on paper's Order, tables' Layout and neighbours' Linked.
-use Prim.Native.Nat.{ℕ, _+_, _-_, _≤_, _<_}
+use Prim.Native.Nat.{ℕ, _+_, _-_, _≤_}
 use mathlib.Core.Path.{_≡_}
 use mathlib.Core.List.{List, map}
-use lib.ListN.{length, getD, take, drop}
+use lib.ListN.{length, take, drop}
 use lib.Seq.{sets}
 use lib.Dec.{eqb}
 use Rattle.lists.specs.Lists.{upto, count}
@@ -33,11 +33,6 @@ pub record Standing (b a : List ℕ) (at : Layout) (links : Listing) (t joined :
   pub count : joined ≡ length (queueAfter b t .joined)
   pub queue : take joined (drop (at .order) a) ≡ queueAfter b t .joined
   pub counters : take (at .sizes .nodes) (drop (links .end) a) ≡ openInputs b (at .sizes .nodes) (queueAfter b t .followed)
-
--- a node's first port stands at `firsts`, and where its links start at `starts`
-pub record Spanned (a : List ℕ) (firsts starts v : ℕ) : Type 0 where
-  pub first-inside : firsts + v < length a
-  pub start-inside : starts + getD a (firsts + v) 0 < length a
 
 -- the targets of the links in the place of the keys, which the sort has left
 unfoldable pub withTargets : List ℕ → List ℕ → Layout → Listing → List ℕ

@@ -2,25 +2,15 @@
 // is a turn on the lent area, and the links by output port stand in the area.
 ghost use mathlib.Core.Path.{_≡_};
 ghost use Prim.Native.Nat.{_+_, _<_};
-ghost use lib.ListN.{length, getD};
+ghost use lib.ListN.{length};
 ghost use Rattle.paper.specs.Order.{order as orderOfMap, queueAfter};
-ghost use Rattle.toposort.specs.Standing.{Spanned, Standing, laid};
+ghost use Rattle.toposort.specs.Standing.{Standing, laid};
 use super::queue::follow;
 use neighbours::Listing;
 use neighbours::target_at;
 use neighbours::targets_start;
 use tables::Layout;
-use words::field::wide;
 use words::section::word_at;
-
-// Where the links of node v start among the links by output port; those of the node before it end there.
-pub fn links_start(area: &[u16], firsts: usize, starts: usize, v: usize) -> usize
-    requires { ⌜ Spanned (now area) firsts starts v ⌝ }
-    ensures { λ r. ⌜ r ≡ getD (now (area .entry)) (starts + getD (now (area .entry)) (firsts + v) 0) 0 ⌝ }
-{
-    let first = wide(area[firsts + v]);
-    wide(area[starts + first])
-}
 
 // Turn t: takes the front of the queue and follows its links by port and listing order; answers how many have joined.
 pub fn turn(
