@@ -1,8 +1,8 @@
 -- `byte_calls::line_convex_checker::view_at_port` meets its contract: a refusal, or where the port's lines start in the area.
--- Rests on ViewCalls.
+-- Rests on opening's Using and calling's ViewCalls.
 use borrow.Author.Needs.{needs}
-use Rattle.convex.proofs.Calling.{is-refusal, usable-before}
-use Rattle.byte_calls.proofs.ViewCalls.{opened, view-refused, view-unknown, view-answered}
+use Rattle.opening.proofs.Using.{is-refusal, usable-before}
+use Rattle.calling.proofs.ViewCalls.{opened, view-refused, view-unknown, view-answered}
 use Rattle.byte_calls.proofs.line_convex_checker.view_at_port.Statement.{statement}
 use Rattle.byte_calls.proofs.line_convex_checker.view_at_port.Tie as tie
 

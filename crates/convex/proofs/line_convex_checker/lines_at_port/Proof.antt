@@ -1,7 +1,7 @@
 -- `convex::line_convex_checker::lines_at_port` meets its contract: 14 of the port, and its lines by counting links.
--- Rests on Calling and LineCalls.
-use Rattle.convex.proofs.Calling.{is-refusal, usable-before}
-use Rattle.convex.proofs.LineCalls.{port-refused, port-unknown, port-answered}
+-- Rests on opening's Using and calling's LineCalls.
+use Rattle.opening.proofs.Using.{is-refusal, usable-before}
+use Rattle.calling.proofs.LineCalls.{port-refused, port-unknown, port-answered}
 use borrow.Author.Needs.{needs}
 use Rattle.convex.proofs.line_convex_checker.lines_at_port.Statement.{statement}
 use Rattle.convex.proofs.line_convex_checker.lines_at_port.Tie as tie
