@@ -30,8 +30,8 @@ use Rattle.intervals.specs.Answer.{listIn}
 use Rattle.intervals.specs.Holds.{Listed}
 use Rattle.intervals.proofs.Into.{into-answered}
 use Rattle.intervals.proofs.Taken.{list-into}
-use Rattle.neighbours.specs.Linked.{Laying}
-use Rattle.neighbours.specs.declared.Places.{Places}
+use Rattle.neighbours.specs.LinkedBy.{Laying}
+use Rattle.neighbours.specs.declared.both.Places.{Places}
 use Rattle.distances.specs.Met.{ListMarked, Listed as ToMark}
 use Rattle.distances.specs.Reached.{Standing}
 use Rattle.distances.specs.Closed.{Closes, ClosesAt, Closed}

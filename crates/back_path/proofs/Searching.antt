@@ -17,7 +17,7 @@ use Rattle.order_theory.proofs.Links.{in-known}
 use Rattle.convexity_theory.proofs.Extremes.{least-most}
 use Rattle.convexity_theory.proofs.Memberships.{mem-in, in-keep, Some, any-some}
 use Rattle.neighbours.specs.Linked.{inStart, inSource}
-use Rattle.neighbours.specs.declared.Places.{Places}
+use Rattle.neighbours.specs.declared.both.Places.{Places}
 use Rattle.neighbours.proofs.Targets.{in-fits, in-rises, source-known, sources-are}
 use Rattle.distances.specs.Met.{tells}
 use Rattle.distances.specs.Reached.{Standing}

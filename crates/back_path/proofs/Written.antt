@@ -14,7 +14,7 @@ use Rattle.lists.proofs.Members.{member-below}
 use Rattle.order_theory.proofs.Refusals.{sound}
 use Rattle.convexity_theory.proofs.Extremes.{least-in}
 use Rattle.convexity_theory.proofs.Memberships.{in-mem, kept}
-use Rattle.neighbours.specs.declared.Places.{Places}
+use Rattle.neighbours.specs.declared.both.Places.{Places}
 use Rattle.distances.specs.Met.{tells}
 use Rattle.distances.specs.Reached.{Standing}
 use Rattle.back_path.specs.Ways.{inNeighbours, stepTold, wayTold, HasWay}

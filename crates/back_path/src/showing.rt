@@ -4,7 +4,7 @@ use answers::PathAnswer;
 use distances::closing::Closing;
 use distances::closing::close;
 use distances::queue::mark_list;
-use neighbours::lay_links;
+use neighbours::both::lay_links;
 use refusals::Refusal;
 use take_in::Taken;
 use take_in::list_refusal;

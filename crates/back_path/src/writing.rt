@@ -1,8 +1,8 @@
 // The path written out from its end.
 use distances::queue::at_distance;
-use neighbours::Places;
-use neighbours::source_at;
-use neighbours::sources_start;
+use neighbours::both::Places;
+use neighbours::both::source_at;
+use neighbours::both::sources_start;
 ghost use mathlib.Core.Path.{_≡_};
 ghost use mathlib.Core.Bool.{true};
 ghost use Prim.Native.Nat.{_<_, min};

@@ -19,8 +19,10 @@ use Rattle.words.proofs.Turns.{length-wordsFrom}
 use Rattle.take_in.proofs.Answers.{AllNodes}
 use Rattle.intervals.specs.Answer.{listIn}
 use Rattle.intervals.specs.Holds.{Listed}
-use Rattle.tables.specs.AnsweredBy.{AnsweredInto, AnsweredBytes}
-use Rattle.tables.specs.UsableBy.{Usable, Scratched, scratchAt}
+use Rattle.tables.specs.declared.Layout.{Layout}
+use Rattle.tables.specs.Answered.{AnsweredInto, AnsweredBytes}
+use Rattle.tables.specs.Usable.{Usable, Scratched}
+use Rattle.tables.specs.UsableBy.{scratchAt}
 use Rattle.answers.specs.Said.{intervalsSaid}
 use Rattle.answers.specs.declared.IntervalsAnswer.{IntervalsAnswer}
 use Rattle.answers.specs.declared.IntervalsAnswer.the-variants.{Records as Made}
@@ -47,12 +49,12 @@ words-needed apart = refl
 pub record RecordsIn (n l p : ℕ) (a m : List ℕ) (r : IntervalsAnswer) (found : Records) (room after bytes : List ℕ) : Type 0 where
   pub inside : InRoom n l p a m (intervalsSaid r) (Rules (wordsFrom bytes) found) (said found) room after (wordsOf found) bytes
 
-pub in-room : {b a : List ℕ} {n l p c : ℕ} → Usable b a n l p → Listed a (scratchAt n l) c n → (bytes : List ℕ) → Below 256 bytes → {fit : ℕ}
+pub in-room : {b a : List ℕ} {n l p c : ℕ} → Usable b a at → Listed a (scratchAt (at .sizes .nodes) (at .sizes .links)) c n → (bytes : List ℕ) → Below 256 bytes → {fit : ℕ}
     → fit ≡ min (length bytes / 2 / 3) 2560
     → (room : List ℕ) → length room ≡ 7680 → (r : IntervalsAnswer) {m after : List ℕ}
-    → AnsweredInto n l p a m (intervalsSaid r) (Rules (part room 0 (3 * fit - 0)) (intervals b a (listIn a n l c))) (said (intervals b a (listIn a n l c)))
-    (part room 0 (3 * fit - 0)) after (wordsOf (intervals b a (listIn a n l c)))
-    → RecordsIn n l p a m r (intervals b a (listIn a n l c)) (part room 0 (3 * fit - 0)) after bytes
+    → AnsweredInto at a m (intervalsSaid r) (Rules (part room 0 (3 * fit - 0)) (intervals b a (listIn a (at .sizes .nodes) (at .sizes .links) c))) (said (intervals b a (listIn a (at .sizes .nodes) (at .sizes .links) c)))
+    (part room 0 (3 * fit - 0)) after (wordsOf (intervals b a (listIn a (at .sizes .nodes) (at .sizes .links) c)))
+    → RecordsIn n l p a m r (intervals b a (listIn a (at .sizes .nodes) (at .sizes .links) c)) (part room 0 (3 * fit - 0)) after bytes
 unfolding wholeRecords
 in-room {b} {a} {n} {l} {c = c} usable there bytes small {fit} enough room long r into =
     record {
@@ -69,7 +71,7 @@ in-room {b} {a} {n} {l} {c = c} usable there bytes small {fit} enough room long 
     }
   where
     found : Records
-    found = intervals b a (listIn a n l c)
+    found = intervals b a (listIn a (at .sizes .nodes) (at .sizes .links) c)
 
     lent : length (part room 0 (3 * fit - 0)) ≡ 3 * fit
     lent = length-part room 0 (3 * fit - 0) (omega (arith, long, enough)) ∙ omega (arith, enough)
@@ -86,7 +88,7 @@ in-room {b} {a} {n} {l} {c = c} usable there bytes small {fit} enough room long 
 module _ {n l p : ℕ} {a m : List ℕ} {r : IntervalsAnswer} {found : Records} {room after bytes : List ℕ} (asked : RecordsIn n l p a m r found room after bytes) where
   -- an answer that is not of records
   pub not-to-bytes : OneOf (1 ∷ 2 ∷ []) (tagOf the-type r)
-      → AnsweredBytes n l p a m (intervalsSaid r) (Rules (wordsFrom bytes) found) (said found) bytes bytes (wordsOf found)
+      → AnsweredBytes at a m (intervalsSaid r) (Rules (wordsFrom bytes) found) (said found) bytes bytes (wordsOf found)
   unfolding answer said wordsOf
   not-to-bytes h = nothing-put (asked .inside) (λ fine. no-words found (room-says (asked .inside) ∙ ap (λ (u : Ruling). answer u (said found)) (sym fine)))
     where
@@ -108,19 +110,19 @@ module _ {n l p : ℕ} {a m : List ℕ} {r : IntervalsAnswer} {found : Records} 
         (told .0, ap (λ (k : ℕ). 3 * k) (held .many ∙ ap needed (sym (held .is))) ∙ sym (words-needed found))
 
     pub records-to-bytes : (rest : List ℕ) {now : List ℕ} → now ≡ putWords bytes (take (3 * made - 0) (after ++ rest))
-        → AnsweredBytes n l p a m (answered (wrote made)) (Rules (wordsFrom bytes) found) (said found) bytes now (wordsOf found)
+        → AnsweredBytes at a m (answered (wrote made)) (Rules (wordsFrom bytes) found) (said found) bytes now (wordsOf found)
     records-to-bytes rest {now} f =
-        subst (λ (x : Answer Written). AnsweredBytes n l p a m x (Rules (wordsFrom bytes) found) (said found) bytes now (wordsOf found))
+        subst (λ (x : Answer Written). AnsweredBytes at a m x (Rules (wordsFrom bytes) found) (said found) bytes now (wordsOf found))
         (ap intervalsSaid e) (words-put (asked .inside) made-so rest f)
 
 -- ---- from the caller's list
 
-module _ {b a : List ℕ} {n l p : ℕ} (usable : Usable b a n l p) {list : List ℕ} {c : ℕ} {m : List ℕ} (nodes : AllNodes n list (scratchAt n l) c m)
-    (kept : Scratched n l p a m) where
+module _ {b a : List ℕ} {n l p : ℕ} (usable : Usable b a at) {list : List ℕ} {c : ℕ} {m : List ℕ} (nodes : AllNodes n list (scratchAt (at .sizes .nodes) (at .sizes .links)) c m)
+    (kept : Scratched at a m) where
   -- what is written on the area with the list is what the question answers
   pub nodes-to-bytes : {o : List ℕ} {x : Answer Written} {bytes after : List ℕ}
-      → AnsweredBytes n l p m o x (Rules (wordsFrom bytes) (intervals b m (listIn m n l c))) (said (intervals b m (listIn m n l c))) bytes after
-      (wordsOf (intervals b m (listIn m n l c)))
-      → AnsweredBytes n l p a o x (rule9 b list ∷ rule10 list ∷ Rules (wordsFrom bytes) (intervals b a list)) (said (intervals b a list)) bytes after
+      → AnsweredBytes at m o x (Rules (wordsFrom bytes) (intervals b m (listIn m (at .sizes .nodes) (at .sizes .links) c))) (said (intervals b m (listIn m (at .sizes .nodes) (at .sizes .links) c))) bytes after
+      (wordsOf (intervals b m (listIn m (at .sizes .nodes) (at .sizes .links) c)))
+      → AnsweredBytes at a o x (rule9 b list ∷ rule10 list ∷ Rules (wordsFrom bytes) (intervals b a list)) (said (intervals b a list)) bytes after
       (wordsOf (intervals b a list))
   nodes-to-bytes got = bytes-back (nodes-into usable nodes kept (record { says = got .says; kept = got .kept; written = refl })) (got .written)

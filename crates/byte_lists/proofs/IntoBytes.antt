@@ -11,17 +11,18 @@ use Rattle.paper.specs.Refusals.{Ruling, passed, refusal, Answer, refused, answ
 use Rattle.paper.specs.Words.{wordsFrom, putWords}
 use Rattle.words.proofs.RoundTrip.{Below, read-and-put}
 use Rattle.words.proofs.Buffers.{put-result}
-use Rattle.tables.specs.AnsweredBy.{AnsweredInto, AnsweredBytes}
+use Rattle.tables.specs.declared.Layout.{Layout}
+use Rattle.tables.specs.Answered.{AnsweredInto, AnsweredBytes}
 
 module _ {A : Type 0} {n l p : ℕ} {a m : List ℕ} {x : Answer A} {rules : List Ruling} {y : A} {bytes result : List ℕ} where
   -- what stands in the buffer's words is put back
-  pub bytes-back : {words after : List ℕ} → AnsweredInto n l p a m x rules y (wordsFrom bytes) words result → after ≡ putWords bytes words
-      → AnsweredBytes n l p a m x rules y bytes after result
+  pub bytes-back : {words after : List ℕ} → AnsweredInto at a m x rules y (wordsFrom bytes) words result → after ≡ putWords bytes words
+      → AnsweredBytes at a m x rules y bytes after result
   bytes-back got e = record { says = got .says; kept = got .kept; written = e ∙ ap (putWords bytes) (got .written) }
 
   -- .. and where they stand as they stood, so do the bytes
-  pub bytes-kept : Below 256 bytes → AnsweredInto n l p a m x rules y (wordsFrom bytes) (wordsFrom bytes) result
-      → AnsweredBytes n l p a m x rules y bytes bytes result
+  pub bytes-kept : Below 256 bytes → AnsweredInto at a m x rules y (wordsFrom bytes) (wordsFrom bytes) result
+      → AnsweredBytes at a m x rules y bytes bytes result
   bytes-kept small got = bytes-back got (sym (read-and-put bytes small))
 
 -- ---- an answer tells that no rule refused, and what is said
@@ -44,12 +45,12 @@ unwritten passed words none = ap (sets words 0) (none refl)
 unwritten (refusal i v) words none = refl
 
 module _ {A : Type 0} {n l p : ℕ} {a m : List ℕ} {x : Answer A} {rules : List Ruling} {y : A} {room after result : List ℕ} (others : List Ruling)
-    (bytes : List ℕ) (small : Below 256 bytes) (got : AnsweredInto n l p a m x rules y room after result) (same : decide rules ≡ decide others) where
+    (bytes : List ℕ) (small : Below 256 bytes) (got : AnsweredInto at a m x rules y room after result) (same : decide rules ≡ decide others) where
   pub says-so : x ≡ answer (decide others) y
   says-so = got .says ∙ ap (λ (u : Ruling). answer u y) same
 
   -- no words are written: the bytes stand
-  pub none-to-bytes : (passed ≡ decide others → result ≡ []) → AnsweredBytes n l p a m x others y bytes bytes result
+  pub none-to-bytes : (passed ≡ decide others → result ≡ []) → AnsweredBytes at a m x others y bytes bytes result
   none-to-bytes none =
       record {
         says = says-so;
@@ -67,7 +68,7 @@ module _ {A : Type 0} {n l p : ℕ} {a m : List ℕ} {x : Answer A} {rules : Lis
 
     -- the room's first words are put into the bytes
     pub some-to-bytes : length result ≤ length room → 2 * length result ≤ length bytes → {now : List ℕ} → now ≡ putWords bytes (take (length result) after)
-        → AnsweredBytes n l p a m x others y bytes now result
+        → AnsweredBytes at a m x others y bytes now result
     unfolding onRefusal
     some-to-bytes inside fits {now} f =
         record {

@@ -20,8 +20,10 @@ use Rattle.intervals.specs.Answer.{listIn}
 use Rattle.intervals.specs.Holds.{Listed}
 use Rattle.intervals.proofs.Cleared.{listing}
 use Rattle.intervals.proofs.Taken.{list-into}
-use Rattle.tables.specs.AnsweredBy.{AnsweredInto, AnsweredBytes}
-use Rattle.tables.specs.UsableBy.{Usable, Scratched, scratchAt}
+use Rattle.tables.specs.declared.Layout.{Layout}
+use Rattle.tables.specs.Answered.{AnsweredInto, AnsweredBytes}
+use Rattle.tables.specs.Usable.{Usable, Scratched}
+use Rattle.tables.specs.UsableBy.{scratchAt}
 use Rattle.answers.specs.Said.{pathSaid}
 use Rattle.answers.specs.declared.PathAnswer.{PathAnswer}
 use Rattle.answers.specs.declared.PathAnswer.the-variants.{Path as Shows}
@@ -32,13 +34,13 @@ use Rattle.byte_lists.proofs.IntoBytes.{bytes-back, answer-told}
 use Rattle.byte_lists.proofs.Room.{InRoom, room-says, nothing-put, words-put}
 
 -- a path has at most one step more than the map has nodes
-pub short-path : {b a : List ℕ} {n l p c : ℕ} → Usable b a n l p → Listed a (scratchAt n l) c n → length (stepsOf (backPath b (listIn a n l c))) ≤ 513
+pub short-path : {b a : List ℕ} {n l p c : ℕ} → Usable b a at → Listed a (scratchAt (at .sizes .nodes) (at .sizes .links)) c n → length (stepsOf (backPath b (listIn a (at .sizes .nodes) (at .sizes .links) c))) ≤ 513
 unfolding stepsOf
-short-path {b} {a} {n} {l} {c = c} usable there = go (backPath b (listIn a n l c)) refl
+short-path {b} {a} {n} {l} {c = c} usable there = go (backPath b (listIn a (at .sizes .nodes) (at .sizes .links) c)) refl
   where
-    go : (f : Path) → backPath b (listIn a n l c) ≡ f → length (stepsOf f) ≤ 513
+    go : (f : Path) → backPath b (listIn a (at .sizes .nodes) (at .sizes .links) c) ≡ f → length (stepsOf f) ≤ 513
     go (path vs) e =
-        omega (arith, back-path-room b (listIn a n l c) (listing usable there .known) e, usable .read .nodes, usable .read .few-nodes)
+        omega (arith, back-path-room b (listIn a (at .sizes .nodes) (at .sizes .links) c) (listing usable there .known) e, usable .read .nodes, usable .read .few-nodes)
     go noPath e = omega arith
 
 -- ---- from the path in a room of words
@@ -51,12 +53,12 @@ Rules buffer found = rule11 (length buffer) (length (stepsOf found)) ∷ []
 pub record PathIn (n l p : ℕ) (a m : List ℕ) (r : PathAnswer) (found : Path) (room after bytes : List ℕ) : Type 0 where
   pub inside : InRoom n l p a m (pathSaid r) (Rules (wordsFrom bytes) found) (shownOf found) room after (stepsOf found) bytes
 
-pub in-room : {b a : List ℕ} {n l p c : ℕ} → Usable b a n l p → Listed a (scratchAt n l) c n → (bytes : List ℕ) → Below 256 bytes → {fit : ℕ}
+pub in-room : {b a : List ℕ} {n l p c : ℕ} → Usable b a at → Listed a (scratchAt (at .sizes .nodes) (at .sizes .links)) c n → (bytes : List ℕ) → Below 256 bytes → {fit : ℕ}
     → fit ≡ min (length bytes / 2) 513
     → (room : List ℕ) → length room ≡ 513 → (r : PathAnswer) {m after : List ℕ}
-    → AnsweredInto n l p a m (pathSaid r) (Rules (part room 0 (fit - 0)) (backPath b (listIn a n l c))) (shownOf (backPath b (listIn a n l c)))
-    (part room 0 (fit - 0)) after (stepsOf (backPath b (listIn a n l c)))
-    → PathIn n l p a m r (backPath b (listIn a n l c)) (part room 0 (fit - 0)) after bytes
+    → AnsweredInto at a m (pathSaid r) (Rules (part room 0 (fit - 0)) (backPath b (listIn a (at .sizes .nodes) (at .sizes .links) c))) (shownOf (backPath b (listIn a (at .sizes .nodes) (at .sizes .links) c)))
+    (part room 0 (fit - 0)) after (stepsOf (backPath b (listIn a (at .sizes .nodes) (at .sizes .links) c)))
+    → PathIn n l p a m r (backPath b (listIn a (at .sizes .nodes) (at .sizes .links) c)) (part room 0 (fit - 0)) after bytes
 in-room {b} {a} {n} {l} {c = c} usable there bytes small {fit} enough room long r into =
     record {
       inside =
@@ -71,7 +73,7 @@ in-room {b} {a} {n} {l} {c = c} usable there bytes small {fit} enough room long 
     }
   where
     found : Path
-    found = backPath b (listIn a n l c)
+    found = backPath b (listIn a (at .sizes .nodes) (at .sizes .links) c)
 
     lent : length (part room 0 (fit - 0)) ≡ min (length (wordsFrom bytes)) 513
     lent = length-part room 0 (fit - 0) (omega (arith, long, enough)) ∙ omega (arith, enough, length-wordsFrom bytes)
@@ -85,7 +87,7 @@ in-room {b} {a} {n} {l} {c = c} usable there bytes small {fit} enough room long 
 module _ {n l p : ℕ} {a m : List ℕ} {r : PathAnswer} {found : Path} {room after bytes : List ℕ} (asked : PathIn n l p a m r found room after bytes) where
   -- an answer that is not of a path
   pub not-to-bytes : OneOf (1 ∷ 2 ∷ []) (tagOf the-type r)
-      → AnsweredBytes n l p a m (pathSaid r) (Rules (wordsFrom bytes) found) (shownOf found) bytes bytes (stepsOf found)
+      → AnsweredBytes at a m (pathSaid r) (Rules (wordsFrom bytes) found) (shownOf found) bytes bytes (stepsOf found)
   unfolding answer shownOf stepsOf
   not-to-bytes h = nothing-put (asked .inside) (λ fine. no-steps found (room-says (asked .inside) ∙ ap (λ (u : Ruling). answer u (shownOf found)) (sym fine)))
     where
@@ -114,26 +116,26 @@ module _ {n l p : ℕ} {a m : List ℕ} {r : PathAnswer} {found : Path} {room af
         many noPath q = ap counted q
 
     pub path-to-bytes : (rest : List ℕ) {now : List ℕ} → now ≡ putWords bytes (take (k - 0) (after ++ rest))
-        → AnsweredBytes n l p a m (answered (steps k)) (Rules (wordsFrom bytes) found) (shownOf found) bytes now (stepsOf found)
+        → AnsweredBytes at a m (answered (steps k)) (Rules (wordsFrom bytes) found) (shownOf found) bytes now (stepsOf found)
     path-to-bytes rest {now} f =
-        subst (λ (x : Answer Shown). AnsweredBytes n l p a m x (Rules (wordsFrom bytes) found) (shownOf found) bytes now (stepsOf found))
+        subst (λ (x : Answer Shown). AnsweredBytes at a m x (Rules (wordsFrom bytes) found) (shownOf found) bytes now (stepsOf found))
         (ap pathSaid e) (words-put (asked .inside) made-so rest f)
 
 -- ---- from the caller's list
 
-module _ {b a : List ℕ} {n l p : ℕ} (usable : Usable b a n l p) {list : List ℕ} {c : ℕ} {m : List ℕ} (nodes : AllNodes n list (scratchAt n l) c m)
-    (kept : Scratched n l p a m) where
+module _ {b a : List ℕ} {n l p : ℕ} (usable : Usable b a at) {list : List ℕ} {c : ℕ} {m : List ℕ} (nodes : AllNodes n list (scratchAt (at .sizes .nodes) (at .sizes .links)) c m)
+    (kept : Scratched at a m) where
   -- what is written on the area with the list is what the question answers
   pub nodes-to-bytes : {o : List ℕ} {x : Answer Shown} {bytes after : List ℕ}
-      → AnsweredBytes n l p m o x (Rules (wordsFrom bytes) (backPath b (listIn m n l c))) (shownOf (backPath b (listIn m n l c))) bytes after
-      (stepsOf (backPath b (listIn m n l c)))
-      → AnsweredBytes n l p a o x (lineRules b list ++ Rules (wordsFrom bytes) (backPath b list)) (shownOf (backPath b list)) bytes after
+      → AnsweredBytes at m o x (Rules (wordsFrom bytes) (backPath b (listIn m (at .sizes .nodes) (at .sizes .links) c))) (shownOf (backPath b (listIn m (at .sizes .nodes) (at .sizes .links) c))) bytes after
+      (stepsOf (backPath b (listIn m (at .sizes .nodes) (at .sizes .links) c)))
+      → AnsweredBytes at a o x (lineRules b list ++ Rules (wordsFrom bytes) (backPath b list)) (shownOf (backPath b list)) bytes after
       (stepsOf (backPath b list))
   nodes-to-bytes {o} {x} {bytes} {after} got =
       bytes-back (list-into usable nodes kept (record { says = there .says; kept = there .kept; written = refl })) (there .written)
     where
-      there : AnsweredBytes n l p m o x (Rules (wordsFrom bytes) (backPath b list)) (shownOf (backPath b list)) bytes after (stepsOf (backPath b list))
+      there : AnsweredBytes at m o x (Rules (wordsFrom bytes) (backPath b list)) (shownOf (backPath b list)) bytes after (stepsOf (backPath b list))
       there =
           subst
-          (λ (vs : List ℕ). AnsweredBytes n l p m o x (Rules (wordsFrom bytes) (backPath b vs)) (shownOf (backPath b vs)) bytes after (stepsOf (backPath b vs)))
+          (λ (vs : List ℕ). AnsweredBytes at m o x (Rules (wordsFrom bytes) (backPath b vs)) (shownOf (backPath b vs)) bytes after (stepsOf (backPath b vs)))
           (nodes .stands) got

@@ -9,13 +9,14 @@ use lib.Seq.{take-append-le}
 use Rattle.paper.specs.Refusals.{Ruling, passed, Answer, answer, decide}
 use Rattle.paper.specs.Words.{putWords}
 use Rattle.words.proofs.RoundTrip.{Below}
-use Rattle.tables.specs.AnsweredBy.{AnsweredInto, AnsweredBytes}
+use Rattle.tables.specs.declared.Layout.{Layout}
+use Rattle.tables.specs.Answered.{AnsweredInto, AnsweredBytes}
 use Rattle.byte_lists.proofs.IntoBytes.{says-so, none-to-bytes, room-stands, some-to-bytes}
 
 -- the rules decide by the room, `own`, as they do by the bytes, and where they pass there is room for the result in both
 pub record InRoom {A : Type 0} (n l p : ℕ) (a m : List ℕ) (x : Answer A) (rules : List Ruling) (y : A) (room after result bytes : List ℕ) : Type 0 where
   pub own : List Ruling
-  pub into : AnsweredInto n l p a m x own y room after result
+  pub into : AnsweredInto at a m x own y room after result
   pub same : decide own ≡ decide rules
   pub fits : passed ≡ decide rules → length result ≤ length room
   pub half : 2 * length room ≤ length bytes
@@ -26,7 +27,7 @@ module _ {A : Type 0} {n l p : ℕ} {a m : List ℕ} {x : Answer A} {rules : Lis
   pub room-says : x ≡ answer (decide rules) y
   room-says = says-so rules bytes (asked .small) (asked .into) (asked .same)
 
-  pub nothing-put : (passed ≡ decide rules → result ≡ []) → AnsweredBytes n l p a m x rules y bytes bytes result
+  pub nothing-put : (passed ≡ decide rules → result ≡ []) → AnsweredBytes at a m x rules y bytes bytes result
   nothing-put = none-to-bytes rules bytes (asked .small) (asked .into) (asked .same)
 
   -- the rules pass, and the result has k words
@@ -44,7 +45,7 @@ module _ {A : Type 0} {n l p : ℕ} {a m : List ℕ} {x : Answer A} {rules : Lis
       pub words-fit : 2 * length (take (k - 0) (after ++ rest)) ≤ length bytes
       words-fit = omega (arith, words-few, asked .half, length-take (k - 0) (after ++ rest))
 
-      pub words-put : {now : List ℕ} → now ≡ putWords bytes (take (k - 0) (after ++ rest)) → AnsweredBytes n l p a m x rules y bytes now result
+      pub words-put : {now : List ℕ} → now ≡ putWords bytes (take (k - 0) (after ++ rest)) → AnsweredBytes at a m x rules y bytes now result
       words-put f =
           some-to-bytes rules bytes (asked .small) (asked .into) (asked .same) (made .0) (asked .fits (made .0))
           (omega (arith, asked .fits (made .0), asked .half))

@@ -11,9 +11,10 @@ ghost use Rattle.paper.specs.Walk.{lineCheck};
 ghost use Rattle.paper.specs.Words.{wordsFrom};
 ghost use Rattle.intervals.specs.Answer.{listIn};
 ghost use Rattle.intervals.specs.Holds.{Listed};
+ghost use Rattle.tables.specs.Answered.{Answered, AnsweredBytes};
+ghost use Rattle.tables.specs.Usable.{Usable};
+ghost use Rattle.tables.specs.UsableBy.{scratchAt};
 ghost use Rattle.answers.specs.Said.{intervalsSaid, lineSaid, pathSaid};
-ghost use Rattle.tables.specs.AnsweredBy.{Answered, AnsweredBytes};
-ghost use Rattle.tables.specs.UsableBy.{Usable, scratchAt};
 use answers::IntervalsAnswer;
 use answers::LineAnswer;
 use answers::PathAnswer;
@@ -29,22 +30,20 @@ use words::bytes::put_words;
 // The line check of a list in bytes: refusals 8, 9, 10, then as `check_list`.
 pub fn check_list_bytes(
     b: &[u8],
-    n: usize,
-    l: usize,
-    p: usize,
+    at: Layout,
     area: &mut [u16],
     list: &[u8],
 ) -> LineAnswer
-    requires { ⌜ Usable (now b) (now area) n l p ⌝ }
-    ensures { λ r. ⌜ Answered n l p (now (area .entry)) (now (area .exit)) (lineSaid r)
+    requires { ⌜ Usable (now b) (now area) at ⌝ }
+    ensures { λ r. ⌜ Answered at (now (area .entry)) (now (area .exit)) (lineSaid r)
         (lineRules (now (b .entry)) (wordsFrom (now (list .entry))))
         (lineCheck (now (b .entry)) (now (area .entry)) (wordsFrom (now (list .entry)))) ⌝ }
 {
-    let taken = take_in_bytes(list, n, area, 3 + 6 * n + 5 * l);
+    let taken = take_in_bytes(list, at.sizes.nodes, area, at.scratch);
     let Taken::Nodes(count) = taken else {
         return LineAnswer::Refused(list_refusal(taken));
     };
-    check_listed(b, n, l, p, area, count)
+    check_listed(b, at.sizes.nodes, at.sizes.links, at.sizes.ports, area, count)
 }
 
 // So many records as there is room for here, which is one for each line of the largest map.
@@ -60,25 +59,23 @@ fn few_records(whole: usize) -> usize
 // The intervals of a list that was taken in, whose `count` nodes stand in the scratch, into a buffer of bytes.
 fn write_intervals_bytes(
     b: &[u8],
-    n: usize,
-    l: usize,
-    p: usize,
+    at: Layout,
     area: &mut [u16],
     count: usize,
     buffer: &mut [u8],
 ) -> IntervalsAnswer
-    requires { ⌜ Usable (now b) (now area) n l p ⌝ }
-    requires { ⌜ Listed (now area) (scratchAt n l) count n ⌝ }
-    ensures { λ r. ⌜ AnsweredBytes n l p (now (area .entry)) (now (area .exit)) (intervalsSaid r)
+    requires { ⌜ Usable (now b) (now area) at ⌝ }
+    requires { ⌜ Listed (now area) (scratchAt (at .sizes .nodes) (at .sizes .links)) count (at .sizes .nodes) ⌝ }
+    ensures { λ r. ⌜ AnsweredBytes at (now (area .entry)) (now (area .exit)) (intervalsSaid r)
         (rule11 (wholeRecords (wordsFrom (now (buffer .entry))))
-        (needed (intervals (now (b .entry)) (now (area .entry)) (listIn (now (area .entry)) n l count))) ∷ [])
-        (said (intervals (now (b .entry)) (now (area .entry)) (listIn (now (area .entry)) n l count)))
+        (needed (intervals (now (b .entry)) (now (area .entry)) (listIn (now (area .entry)) (at .sizes .nodes) (at .sizes .links) count))) ∷ [])
+        (said (intervals (now (b .entry)) (now (area .entry)) (listIn (now (area .entry)) (at .sizes .nodes) (at .sizes .links) count)))
         (now (buffer .entry)) (now (buffer .exit))
-        (wordsOf (intervals (now (b .entry)) (now (area .entry)) (listIn (now (area .entry)) n l count))) ⌝ }
+        (wordsOf (intervals (now (b .entry)) (now (area .entry)) (listIn (now (area .entry)) (at .sizes .nodes) (at .sizes .links) count))) ⌝ }
 {
     let whole = few_records(buffer.len() / 2 / 3);
     let mut room = record_room();
-    let written = write_intervals(b, n, l, p, area, count, &mut room[0..3 * whole]);
+    let written = write_intervals(b, at.sizes.nodes, at.sizes.links, at.sizes.ports, area, count, &mut room[0..3 * whole]);
     let IntervalsAnswer::Records(made) = written else {
         return written;
     };
@@ -89,15 +86,13 @@ fn write_intervals_bytes(
 // The intervals of a list in bytes, into a buffer of bytes: refusals 9, 10, 11, and no records for no nodes.
 pub fn intervals_of_list_bytes(
     b: &[u8],
-    n: usize,
-    l: usize,
-    p: usize,
+    at: Layout,
     area: &mut [u16],
     list: &[u8],
     buffer: &mut [u8],
 ) -> IntervalsAnswer
-    requires { ⌜ Usable (now b) (now area) n l p ⌝ }
-    ensures { λ r. ⌜ AnsweredBytes n l p (now (area .entry)) (now (area .exit)) (intervalsSaid r)
+    requires { ⌜ Usable (now b) (now area) at ⌝ }
+    ensures { λ r. ⌜ AnsweredBytes at (now (area .entry)) (now (area .exit)) (intervalsSaid r)
         (rule9 (now (b .entry)) (wordsFrom (now (list .entry))) ∷ rule10 (wordsFrom (now (list .entry)))
         ∷ rule11 (wholeRecords (wordsFrom (now (buffer .entry))))
         (needed (intervals (now (b .entry)) (now (area .entry)) (wordsFrom (now (list .entry))))) ∷ [])
@@ -108,11 +103,11 @@ pub fn intervals_of_list_bytes(
     if list.len() / 2 == 0 {
         return IntervalsAnswer::Records(0);
     }
-    let taken = take_in_bytes(list, n, area, 3 + 6 * n + 5 * l);
+    let taken = take_in_bytes(list, at.sizes.nodes, area, at.scratch);
     let Taken::Nodes(count) = taken else {
         return IntervalsAnswer::Refused(list_refusal(taken));
     };
-    write_intervals_bytes(b, n, l, p, area, count, buffer)
+    write_intervals_bytes(b, at.sizes.nodes, at.sizes.links, at.sizes.ports, area, count, buffer)
 }
 
 // Room for the longest path of the largest map: no node stands in it twice, unless its start is its end.
@@ -135,24 +130,22 @@ fn few_steps(whole: usize) -> usize
 // The path of a list that was taken in, whose `count` nodes stand in the scratch, into a buffer of bytes.
 fn show_listed_bytes(
     b: &[u8],
-    n: usize,
-    l: usize,
-    p: usize,
+    at: Layout,
     area: &mut [u16],
     count: usize,
     buffer: &mut [u8],
 ) -> PathAnswer
-    requires { ⌜ Usable (now b) (now area) n l p ⌝ }
-    requires { ⌜ Listed (now area) (scratchAt n l) count n ⌝ }
-    ensures { λ r. ⌜ AnsweredBytes n l p (now (area .entry)) (now (area .exit)) (pathSaid r)
-        (rule11 (length (wordsFrom (now (buffer .entry)))) (length (stepsOf (backPath (now (b .entry)) (listIn (now (area .entry)) n l count)))) ∷ [])
-        (shownOf (backPath (now (b .entry)) (listIn (now (area .entry)) n l count)))
+    requires { ⌜ Usable (now b) (now area) at ⌝ }
+    requires { ⌜ Listed (now area) (scratchAt (at .sizes .nodes) (at .sizes .links)) count (at .sizes .nodes) ⌝ }
+    ensures { λ r. ⌜ AnsweredBytes at (now (area .entry)) (now (area .exit)) (pathSaid r)
+        (rule11 (length (wordsFrom (now (buffer .entry)))) (length (stepsOf (backPath (now (b .entry)) (listIn (now (area .entry)) (at .sizes .nodes) (at .sizes .links) count)))) ∷ [])
+        (shownOf (backPath (now (b .entry)) (listIn (now (area .entry)) (at .sizes .nodes) (at .sizes .links) count)))
         (now (buffer .entry)) (now (buffer .exit))
-        (stepsOf (backPath (now (b .entry)) (listIn (now (area .entry)) n l count))) ⌝ }
+        (stepsOf (backPath (now (b .entry)) (listIn (now (area .entry)) (at .sizes .nodes) (at .sizes .links) count))) ⌝ }
 {
     let whole = few_steps(buffer.len() / 2);
     let mut room = path_room();
-    let shown = show_listed(b, n, l, p, area, count, &mut room[0..whole]);
+    let shown = show_listed(b, at.sizes.nodes, at.sizes.links, at.sizes.ports, area, count, &mut room[0..whole]);
     let PathAnswer::Path(steps) = shown else {
         return shown;
     };
@@ -163,24 +156,22 @@ fn show_listed_bytes(
 // The path of a list in bytes, into a buffer of bytes: refusals 8, 9, 10, then 11.
 pub fn show_path_of_list_bytes(
     b: &[u8],
-    n: usize,
-    l: usize,
-    p: usize,
+    at: Layout,
     area: &mut [u16],
     list: &[u8],
     buffer: &mut [u8],
 ) -> PathAnswer
-    requires { ⌜ Usable (now b) (now area) n l p ⌝ }
-    ensures { λ r. ⌜ AnsweredBytes n l p (now (area .entry)) (now (area .exit)) (pathSaid r)
+    requires { ⌜ Usable (now b) (now area) at ⌝ }
+    ensures { λ r. ⌜ AnsweredBytes at (now (area .entry)) (now (area .exit)) (pathSaid r)
         (lineRules (now (b .entry)) (wordsFrom (now (list .entry)))
         ++ (rule11 (length (wordsFrom (now (buffer .entry)))) (length (stepsOf (backPath (now (b .entry)) (wordsFrom (now (list .entry)))))) ∷ []))
         (shownOf (backPath (now (b .entry)) (wordsFrom (now (list .entry)))))
         (now (buffer .entry)) (now (buffer .exit))
         (stepsOf (backPath (now (b .entry)) (wordsFrom (now (list .entry))))) ⌝ }
 {
-    let taken = take_in_bytes(list, n, area, 3 + 6 * n + 5 * l);
+    let taken = take_in_bytes(list, at.sizes.nodes, area, at.scratch);
     let Taken::Nodes(count) = taken else {
         return PathAnswer::Refused(list_refusal(taken));
     };
-    show_listed_bytes(b, n, l, p, area, count, buffer)
+    show_listed_bytes(b, at.sizes.nodes, at.sizes.links, at.sizes.ports, area, count, buffer)
 }

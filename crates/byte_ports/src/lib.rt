@@ -7,8 +7,8 @@ ghost use Rattle.paper.specs.OrderCheck.{orderCheck};
 ghost use Rattle.paper.specs.Ports.{conflict};
 ghost use Rattle.paper.specs.Walk.{lineCheck};
 ghost use Rattle.paper.specs.Words.{wordsFrom};
-ghost use Rattle.tables.specs.AnsweredBy.{Answered};
-ghost use Rattle.tables.specs.UsableBy.{Usable};
+ghost use Rattle.tables.specs.Answered.{Answered};
+ghost use Rattle.tables.specs.Usable.{Usable};
 ghost use Rattle.answers.specs.Said.{lineSaid, topoSaid};
 use answers::LineAnswer;
 use answers::TopoAnswer;
@@ -21,24 +21,22 @@ use with_ports::order_after_ports;
 // The line check with ports: the check's refusals come first, then 14; no with count 0 on a conflict; else the check.
 pub fn check_list_with_ports_bytes(
     b: &[u8],
-    n: usize,
-    l: usize,
-    p: usize,
+    at: Layout,
     area: &mut [u16],
     list: &[u8],
     inputs: &[u8],
     outputs: &[u8],
 ) -> LineAnswer
-    requires { ⌜ Usable (now b) (now area) n l p ⌝ }
-    ensures { λ r. ⌜ Answered n l p (now (area .entry)) (now (area .exit)) (lineSaid r)
+    requires { ⌜ Usable (now b) (now area) at ⌝ }
+    ensures { λ r. ⌜ Answered at (now (area .entry)) (now (area .exit)) (lineSaid r)
         (lineRules (now (b .entry)) (wordsFrom (now (list .entry)))
         ++ portRules (now (b .entry)) (wordsFrom (now (inputs .entry))) (wordsFrom (now (outputs .entry))))
         (cond (conflict (now (b .entry)) (wordsFrom (now (inputs .entry))) (wordsFrom (now (outputs .entry)))) (Reply.No, 0)
         (lineCheck (now (b .entry)) (now (area .entry)) (wordsFrom (now (list .entry))))) ⌝ }
 {
-    let checked = check_list_bytes(b, n, l, p, area, list);
+    let checked = check_list_bytes(b, at, area, list);
     let LineAnswer::Refused(_) = checked else {
-        let found = check_ports_bytes(b, n, l, p, area, 3 + 6 * n + 5 * l, inputs, outputs);
+        let found = check_ports_bytes(b, at.sizes.nodes, at.sizes.links, at.sizes.ports, area, at.scratch, inputs, outputs);
         return line_after_ports(found, checked);
     };
     checked
@@ -47,24 +45,22 @@ pub fn check_list_with_ports_bytes(
 // The order check with ports: its refusal comes first, then 14; no on a conflict; else the check.
 pub fn check_order_with_ports_bytes(
     b: &[u8],
-    n: usize,
-    l: usize,
-    p: usize,
+    at: Layout,
     area: &mut [u16],
     list: &[u8],
     inputs: &[u8],
     outputs: &[u8],
 ) -> TopoAnswer
-    requires { ⌜ Usable (now b) (now area) n l p ⌝ }
-    ensures { λ r. ⌜ Answered n l p (now (area .entry)) (now (area .exit)) (topoSaid r)
+    requires { ⌜ Usable (now b) (now area) at ⌝ }
+    ensures { λ r. ⌜ Answered at (now (area .entry)) (now (area .exit)) (topoSaid r)
         (orderRules (now (b .entry)) (wordsFrom (now (list .entry)))
         ++ portRules (now (b .entry)) (wordsFrom (now (inputs .entry))) (wordsFrom (now (outputs .entry))))
         (cond (conflict (now (b .entry)) (wordsFrom (now (inputs .entry))) (wordsFrom (now (outputs .entry)))) Reply.No
         (orderCheck (now (b .entry)) (now (area .entry)) (wordsFrom (now (list .entry))))) ⌝ }
 {
-    let checked = check_order_bytes(b, n, l, p, area, list);
+    let checked = check_order_bytes(b, at.sizes.nodes, at.sizes.links, at.sizes.ports, area, list);
     let TopoAnswer::Refused(_) = checked else {
-        let found = check_ports_bytes(b, n, l, p, area, 3 + 6 * n + 5 * l, inputs, outputs);
+        let found = check_ports_bytes(b, at.sizes.nodes, at.sizes.links, at.sizes.ports, area, at.scratch, inputs, outputs);
         return order_after_ports(found, checked);
     };
     checked

@@ -24,11 +24,12 @@ use Rattle.refusals.specs.declared.Refusal.the-variants.{BadRecord}
 use Rattle.records.specs.Tested.{Tested}
 use Rattle.records.specs.declared.Checked.the-variants.{Refused}
 use Rattle.records.proofs.Testing.{beyond}
-use Rattle.tables.specs.AnsweredBy.{Answered}
-use Rattle.tables.specs.UsableBy.{Usable}
+use Rattle.tables.specs.declared.Layout.{Layout}
+use Rattle.tables.specs.Answered.{Answered}
+use Rattle.tables.specs.Usable.{Usable}
 use Rattle.tables.proofs.Within.{within-none}
 use Rattle.tables.proofs.WordsBy.{count-few}
-use Rattle.tables.proofs.UsableBy.{tables-still}
+use Rattle.tables.proofs.Usable.{tables-still}
 use Rattle.words.proofs.Turns.{length-wordsFrom}
 use Rattle.line_checker.proofs.RecordCalls.{some-given}
 use Rattle.byte_records.proofs.Enough.{FirstRecords, rule12-enough, records-enough}
@@ -44,7 +45,7 @@ rule11-enough room m many h = ap (λ (t : Bool). refuse 11 (placed t many)) (go 
     go (yes l) = lt-ltb (min room m) many (omega arith) ∙ sym (lt-ltb room many l)
     go (no l) = le-ltb (min room m) many (omega arith) ∙ sym (le-ltb room many (omega arith))
 
-module _ {b a : List ℕ} {n l p : ℕ} (usable : Usable b a n l p) {ws : List ℕ} {count : ℕ} (within : count ≤ wholeRecords ws) {vs : List ℕ}
+module _ {b a : List ℕ} {n l p : ℕ} (usable : Usable b a at) {ws : List ℕ} {count : ℕ} (within : count ≤ wholeRecords ws) {vs : List ℕ}
     (held : FirstRecords ws (min count 2561) vs) where
   few : K b a < 2561
   few = omega (arith, count-few usable, usable .read .few-nodes, usable .read .few-links)
@@ -58,9 +59,9 @@ module _ {b a : List ℕ} {n l p : ℕ} (usable : Usable b a n l p) {ws : List �
   -- ---- the check by records
 
   check-all : count ≢ 0 → {m : List ℕ} {x : Answer (Reply × ℕ)}
-      → Answered n l p a m x (rule8 (min count 2561) ∷ rule12 b a vs (min count 2561) ∷ rule13 b a (recordsIn vs (min count 2561)) ∷ [])
+      → Answered at a m x (rule8 (min count 2561) ∷ rule12 b a vs (min count 2561) ∷ rule13 b a (recordsIn vs (min count 2561)) ∷ [])
       (walk b a (recordsIn vs (min count 2561)))
-      → Answered n l p a m x (rule8 count ∷ rule12 b a ws count ∷ rule13 b a (recordsIn ws count) ∷ []) (walk b a (recordsIn ws count))
+      → Answered at a m x (rule8 count ∷ rule12 b a ws count ∷ rule13 b a (recordsIn ws count) ∷ []) (walk b a (recordsIn ws count))
   check-all some got = record { says = got .says ∙ same-answer alike (walk b a); kept = got .kept }
     where
       some-read : min count 2561 ≢ 0
@@ -122,18 +123,18 @@ module _ {b a : List ℕ} {n l p : ℕ} (usable : Usable b a n l p) {ws : List �
 -- ---- records beyond the buffer
 
 pub beyond-bytes : (b a : List ℕ) (n l p : ℕ) (bytes : List ℕ) {count : ℕ} → length bytes / 2 / 3 < count
-    → Tested b a n l p (wordsFrom bytes) count (Refused (BadRecord (length bytes / 2 / 3))) a
+    → Tested b a (at .sizes .nodes) (at .sizes .links) (at .sizes .ports) (wordsFrom bytes) count (Refused (BadRecord (length bytes / 2 / 3))) a
 beyond-bytes b a n l p bytes {count} h =
-    subst (λ (k : ℕ). Tested b a n l p (wordsFrom bytes) count (Refused (BadRecord (k / 3))) a) (length-wordsFrom bytes)
+    subst (λ (k : ℕ). Tested b a (at .sizes .nodes) (at .sizes .links) (at .sizes .ports) (wordsFrom bytes) count (Refused (BadRecord (k / 3))) a) (length-wordsFrom bytes)
     (beyond b a n l p (wordsFrom bytes) (omega (arith, length-wordsFrom bytes)))
 
 -- ---- the check of what was read
 
-pub check-read : {b a : List ℕ} {n l p : ℕ} → Usable b a n l p → {bytes : List ℕ} {count r : ℕ} {vs : List ℕ} → ReadRecords bytes count r vs → count ≢ 0
+pub check-read : {b a : List ℕ} {n l p : ℕ} → Usable b a at → {bytes : List ℕ} {count r : ℕ} {vs : List ℕ} → ReadRecords bytes count r vs → count ≢ 0
     → {m : List ℕ} {x : Answer (Reply × ℕ)}
-    → Answered n l p a m x (rule8 r ∷ rule12 b a vs r ∷ rule13 b a (recordsIn vs r) ∷ []) (walk b a (recordsIn vs r))
-    → Answered n l p a m x (rule8 count ∷ rule12 b a (wordsFrom bytes) count ∷ rule13 b a (recordsIn (wordsFrom bytes) count) ∷ [])
+    → Answered at a m x (rule8 r ∷ rule12 b a vs r ∷ rule13 b a (recordsIn vs r) ∷ []) (walk b a (recordsIn vs r))
+    → Answered at a m x (rule8 count ∷ rule12 b a (wordsFrom bytes) count ∷ rule13 b a (recordsIn (wordsFrom bytes) count) ∷ [])
     (walk b a (recordsIn (wordsFrom bytes) count))
 check-read {b} {a} {n} {l} {p} usable {vs = vs} read some {m} {x} got =
     check-all usable (read .within) (read .held) some
-    (subst (λ (k : ℕ). Answered n l p a m x (rule8 k ∷ rule12 b a vs k ∷ rule13 b a (recordsIn vs k) ∷ []) (walk b a (recordsIn vs k))) (read .is) got)
+    (subst (λ (k : ℕ). Answered at a m x (rule8 k ∷ rule12 b a vs k ∷ rule13 b a (recordsIn vs k) ∷ []) (walk b a (recordsIn vs k))) (read .is) got)

@@ -16,8 +16,9 @@ use Rattle.paper.specs.Words.{wordsFrom, putWords}
 use Rattle.accepted_theory.proofs.Alike.{Alike}
 use Rattle.accepted_theory.proofs.recorded.Reading.{length-words}
 use Rattle.refusals.proofs.Rulings.{head-passed}
-use Rattle.tables.specs.AnsweredBy.{AnsweredInto, AnsweredBytes}
-use Rattle.tables.specs.UsableBy.{Usable}
+use Rattle.tables.specs.declared.Layout.{Layout}
+use Rattle.tables.specs.Answered.{AnsweredInto, AnsweredBytes}
+use Rattle.tables.specs.Usable.{Usable}
 use Rattle.words.proofs.RoundTrip.{Below}
 use Rattle.words.proofs.Turns.{length-wordsFrom}
 use Rattle.answers.specs.Said.{extendSaid}
@@ -44,10 +45,10 @@ none-written (Extend.Records k) tag f e = absurd (miss (1 ∷ 2 ∷ []) 0 tt tag
 none-written Extend.NotExtendable tag f e = ap wordsOf (wrote-none f (answered-passed passed foundApart (said f) e .1))
 none-written (Extend.Refused x) tag f e = absurd (let z : _≡_ {A = ℕ} 0 1 = cc in omega arith)
 
-module _ {b a : List ℕ} {n l p : ℕ} (usable : Usable b a n l p) (bytes : List ℕ) (bytewise : Below 256 bytes) {count r : ℕ} {vs : List ℕ}
+module _ {b a : List ℕ} {n l p : ℕ} (usable : Usable b a at) (bytes : List ℕ) (bytewise : Below 256 bytes) {count r : ℕ} {vs : List ℕ}
     (read : ReadRecords bytes count r vs × (wholeRecords vs ≡ min (wholeRecords (wordsFrom bytes)) 2561)) {v : ℕ} (known : v < n) {m : List ℕ}
     (x : ExtendAnswer) {after : List ℕ}
-    (got : AnsweredInto n l p a m (extendSaid x) (Rules b a vs r v) (said (extend b a (recordsIn vs r) v)) vs after (wordsOf (extend b a (recordsIn vs r) v))) where
+    (got : AnsweredInto at a m (extendSaid x) (Rules b a vs r v) (said (extend b a (recordsIn vs r) v)) vs after (wordsOf (extend b a (recordsIn vs r) v))) where
   found : Records
   found = extend b a (recordsIn (wordsFrom bytes) count) v
 
@@ -58,7 +59,7 @@ module _ {b a : List ℕ} {n l p : ℕ} (usable : Usable b a n l p) (bytes : Lis
       (extend-all usable (read .0 .within) (read .0 .held) (read .1) known)
 
   pub extend-left : OneOf (1 ∷ 2 ∷ []) (tagOf the-type x)
-      → AnsweredBytes n l p a m (extendSaid x) (Rules b a (wordsFrom bytes) count v) (said (extend b a (recordsIn (wordsFrom bytes) count) v)) bytes bytes
+      → AnsweredBytes at a m (extendSaid x) (Rules b a (wordsFrom bytes) count v) (said (extend b a (recordsIn (wordsFrom bytes) count) v)) bytes bytes
       (wordsOf (extend b a (recordsIn (wordsFrom bytes) count) v))
   unfolding found answer
   extend-left tag =
@@ -131,12 +132,12 @@ module _ {b a : List ℕ} {n l p : ℕ} (usable : Usable b a n l p) (bytes : Lis
         )
 
     pub extend-put : (rest : List ℕ) {out : List ℕ} → out ≡ putWords bytes (take (3 * made - 0) (after ++ rest))
-        → AnsweredBytes n l p a m (answered (wrote made)) (Rules b a (wordsFrom bytes) count v) (said (extend b a (recordsIn (wordsFrom bytes) count) v)) bytes
+        → AnsweredBytes at a m (answered (wrote made)) (Rules b a (wordsFrom bytes) count v) (said (extend b a (recordsIn (wordsFrom bytes) count) v)) bytes
         out
         (wordsOf (extend b a (recordsIn (wordsFrom bytes) count) v))
     unfolding found
     extend-put rest {out} e =
-        subst (λ (y : ExtendAnswer). AnsweredBytes n l p a m (extendSaid y) (Rules b a (wordsFrom bytes) count v) (said found) bytes out (wordsOf found)) is
+        subst (λ (y : ExtendAnswer). AnsweredBytes at a m (extendSaid y) (Rules b a (wordsFrom bytes) count v) (said found) bytes out (wordsOf found)) is
         (put-back alike said wordsOf got bytes bytewise (told .0) (omega (arith, long, inside))
         (e ∙ ap (λ (k : ℕ). putWords bytes (take k (after ++ rest))) plain
         ∙ ap (putWords bytes) (front vs rest (wordsOf found) (in-room alike said wordsOf got (told .0)) (omega (arith, long, in-part)))))

@@ -12,8 +12,9 @@ use Rattle.paper.specs.Words.{wordsFrom, putWords}
 use Rattle.accepted_theory.proofs.Alike.{Alike}
 use Rattle.refusals.specs.declared.Refusal.{Refusal}
 use Rattle.refusals.proofs.Rulings.{head-passed}
-use Rattle.tables.specs.AnsweredBy.{AnsweredInto, AnsweredBytes}
-use Rattle.tables.specs.UsableBy.{Usable}
+use Rattle.tables.specs.declared.Layout.{Layout}
+use Rattle.tables.specs.Answered.{AnsweredInto, AnsweredBytes}
+use Rattle.tables.specs.Usable.{Usable}
 use Rattle.words.proofs.RoundTrip.{Below}
 use Rattle.words.proofs.Turns.{length-wordsFrom}
 use Rattle.answers.specs.Said.{nodesSaid}
@@ -30,10 +31,10 @@ Rules b a ws count room =
 last-passed : (u v : Ruling) (us : List Ruling) → passed ≡ decide (u ∷ v ∷ us) → passed ≡ decide us
 last-passed u v us e = head-passed v us (head-passed u (v ∷ us) e .1) .1
 
-module _ {b a : List ℕ} {n l p : ℕ} (usable : Usable b a n l p) {given : List ℕ} {count r : ℕ} {vs : List ℕ} (read : ReadRecords given count r vs)
+module _ {b a : List ℕ} {n l p : ℕ} (usable : Usable b a at) {given : List ℕ} {count r : ℕ} {vs : List ℕ} (read : ReadRecords given count r vs)
     (bytes : List ℕ) (bytewise : Below 256 bytes) {nodes : List ℕ} (room : length nodes ≡ min (length (wordsFrom bytes)) 512) {m : List ℕ}
     (x : NodesAnswer) {after : List ℕ}
-    (got : AnsweredInto n l p a m (nodesSaid x) (Rules b a vs r (length nodes)) (length (nodesIn b a (recordsIn vs r))) nodes after
+    (got : AnsweredInto at a m (nodesSaid x) (Rules b a vs r (length nodes)) (length (nodesIn b a (recordsIn vs r))) nodes after
     (nodesIn b a (recordsIn vs r))) where
   found : List ℕ
   found = nodesIn b a (recordsIn (wordsFrom given) count)
@@ -49,7 +50,7 @@ module _ {b a : List ℕ} {n l p : ℕ} (usable : Usable b a n l p) {given : Lis
       (nodes-all usable (read .within) (read .held) (length (wordsFrom bytes))))
 
   pub nodes-left : {u : Refusal} → x ≡ In.Refused u
-      → AnsweredBytes n l p a m (nodesSaid x) (Rules b a (wordsFrom given) count (length (wordsFrom bytes)))
+      → AnsweredBytes at a m (nodesSaid x) (Rules b a (wordsFrom given) count (length (wordsFrom bytes)))
       (length (nodesIn b a (recordsIn (wordsFrom given) count))) bytes bytes (nodesIn b a (recordsIn (wordsFrom given) count))
   unfolding found answer
   nodes-left {u} is =
@@ -104,12 +105,12 @@ module _ {b a : List ℕ} {n l p : ℕ} (usable : Usable b a n l p) {given : Lis
         )
 
     pub nodes-put : (rest : List ℕ) {out : List ℕ} → out ≡ putWords bytes (take (made - 0) (after ++ rest))
-        → AnsweredBytes n l p a m (answered made) (Rules b a (wordsFrom given) count (length (wordsFrom bytes)))
+        → AnsweredBytes at a m (answered made) (Rules b a (wordsFrom given) count (length (wordsFrom bytes)))
         (length (nodesIn b a (recordsIn (wordsFrom given) count))) bytes out (nodesIn b a (recordsIn (wordsFrom given) count))
     unfolding found
     nodes-put rest {out} e =
         subst
-        (λ (y : NodesAnswer). AnsweredBytes n l p a m (nodesSaid y) (Rules b a (wordsFrom given) count (length (wordsFrom bytes))) (length found) bytes out found)
+        (λ (y : NodesAnswer). AnsweredBytes at a m (nodesSaid y) (Rules b a (wordsFrom given) count (length (wordsFrom bytes))) (length found) bytes out found)
         is
         (put-back alike length (λ xs. xs) got bytes bytewise (told .0) (omega (arith, told .1, inside))
         (e ∙ ap (λ (k : ℕ). putWords bytes (take k (after ++ rest))) plain

@@ -12,7 +12,8 @@ use Rattle.paper.specs.Refusals.{Ruling, passed, refusal, Answer, answer, answe
 use Rattle.paper.specs.Words.{wordsFrom, putWords}
 use Rattle.accepted_theory.proofs.Alike.{Alike, same-answer, same-kept}
 use Rattle.refusals.proofs.Rulings.{no-refusal}
-use Rattle.tables.specs.AnsweredBy.{AnsweredInto, AnsweredBytes}
+use Rattle.tables.specs.declared.Layout.{Layout}
+use Rattle.tables.specs.Answered.{AnsweredInto, AnsweredBytes}
 use Rattle.words.proofs.RoundTrip.{Below, read-and-put}
 use Rattle.words.proofs.Buffers.{put-result}
 use Rattle.intervals.proofs.Into.{too-long}
@@ -33,13 +34,13 @@ answered-passed (refusal n v) x y e = absurd (let z : _≡_ {A = ℕ} 0 1 = cc i
 
 -- words that stand as they stood leave the bytes as they were
 module _ {A : Type 0} {n l p : ℕ} {a m : List ℕ} {x : Answer A} {rules : List Ruling} {y : A} (bytes : List ℕ) (bytewise : Below 256 bytes) where
-  pub into-bytes : {result : List ℕ} → AnsweredInto n l p a m x rules y (wordsFrom bytes) (wordsFrom bytes) result
-      → AnsweredBytes n l p a m x rules y bytes bytes result
+  pub into-bytes : {result : List ℕ} → AnsweredInto at a m x rules y (wordsFrom bytes) (wordsFrom bytes) result
+      → AnsweredBytes at a m x rules y bytes bytes result
   into-bytes got =
       record { says = got .says; kept = got .kept; written = sym (read-and-put bytes bytewise) ∙ ap (putWords bytes) (got .written) }
 
 module _ {F A : Type 0} {rs ss : List Ruling} {f g : F} (alike : Alike rs ss f g) (told : F → A) (words : F → List ℕ) {n l p : ℕ} {a m : List ℕ}
-    {x : Answer A} {room after : List ℕ} (got : AnsweredInto n l p a m x rs (told f) room after (words f)) where
+    {x : Answer A} {room after : List ℕ} (got : AnsweredInto at a m x rs (told f) room after (words f)) where
   pub says-all : x ≡ answer (decide ss) (told g)
   says-all = got .says ∙ same-answer alike told
 
@@ -50,7 +51,7 @@ module _ {F A : Type 0} {rs ss : List Ruling} {f g : F} (alike : Alike rs ss f g
       got .written ∙ same-kept alike room (λ h. sets room 0 (words h)) ∙ ap (λ (u : Ruling). onRefusal u room (sets room 0 (words g))) (sym e)
 
   module _ (bytes : List ℕ) (bytewise : Below 256 bytes) where
-    pub unput : (passed ≡ decide ss → words g ≡ []) → AnsweredBytes n l p a m x ss (told g) bytes bytes (words g)
+    pub unput : (passed ≡ decide ss → words g ≡ []) → AnsweredBytes at a m x ss (told g) bytes bytes (words g)
     unfolding onRefusal
     unput nothing =
         into-bytes bytes bytewise (record { says = says-all; kept = got .kept; written = go (decide ss) nothing })
@@ -60,7 +61,7 @@ module _ {F A : Type 0} {rs ss : List Ruling} {f g : F} (alike : Alike rs ss f g
         go (refusal i v) e = refl
 
     pub put-back : passed ≡ decide ss → 2 * length (words g) ≤ length bytes → {out : List ℕ} → out ≡ putWords bytes (words g)
-        → AnsweredBytes n l p a m x ss (told g) bytes out (words g)
+        → AnsweredBytes at a m x ss (told g) bytes out (words g)
     unfolding onRefusal
     put-back e fits h =
         record {

@@ -10,9 +10,9 @@ ghost use Rattle.paper.specs.Records.{extend, nodesIn, recordsIn};
 ghost use Rattle.paper.specs.Refusals.{rule8, rule9, rule11, rule12, rule13, wholeRecords};
 ghost use Rattle.paper.specs.Walk.{walk};
 ghost use Rattle.paper.specs.Words.{wordsFrom};
+ghost use Rattle.tables.specs.Answered.{Answered, AnsweredBytes};
+ghost use Rattle.tables.specs.Usable.{Usable};
 ghost use Rattle.answers.specs.Said.{extendSaid, lineSaid, nodesSaid};
-ghost use Rattle.tables.specs.AnsweredBy.{Answered, AnsweredBytes};
-ghost use Rattle.tables.specs.UsableBy.{Usable};
 use answers::ExtendAnswer;
 use answers::LineAnswer;
 use answers::NodesAnswer;
@@ -62,15 +62,13 @@ fn read_records(records: &[u8], count: usize, room: &mut [u16]) -> usize
 // The check by records in bytes: refusals 8, 12, 13, then the walk.
 pub fn check_by_records_bytes(
     b: &[u8],
-    n: usize,
-    l: usize,
-    p: usize,
+    at: Layout,
     area: &mut [u16],
     records: &[u8],
     count: usize,
 ) -> LineAnswer
-    requires { ⌜ Usable (now b) (now area) n l p ⌝ }
-    ensures { λ r. ⌜ Answered n l p (now (area .entry)) (now (area .exit)) (lineSaid r)
+    requires { ⌜ Usable (now b) (now area) at ⌝ }
+    ensures { λ r. ⌜ Answered at (now (area .entry)) (now (area .exit)) (lineSaid r)
         (rule8 count ∷ rule12 (now (b .entry)) (now (area .entry)) (wordsFrom (now (records .entry))) count
         ∷ rule13 (now (b .entry)) (now (area .entry)) (recordsIn (wordsFrom (now (records .entry))) count) ∷ [])
         (walk (now (b .entry)) (now (area .entry)) (recordsIn (wordsFrom (now (records .entry))) count)) ⌝ }
@@ -84,22 +82,20 @@ pub fn check_by_records_bytes(
     }
     let mut room = wide_room();
     let read = read_records(records, count, &mut room);
-    check_by_records(b, n, l, p, area, &room, read)
+    check_by_records(b, at.sizes.nodes, at.sizes.links, at.sizes.ports, area, &room, read)
 }
 
 // Extends records in bytes by a node, in their own buffer: refusals 9, 12, 13, then 11.
 pub fn extend_records_bytes(
     b: &[u8],
-    n: usize,
-    l: usize,
-    p: usize,
+    at: Layout,
     area: &mut [u16],
     records: &mut [u8],
     count: usize,
     node: usize,
 ) -> ExtendAnswer
-    requires { ⌜ Usable (now b) (now area) n l p ⌝ }
-    ensures { λ r. ⌜ AnsweredBytes n l p (now (area .entry)) (now (area .exit)) (extendSaid r)
+    requires { ⌜ Usable (now b) (now area) at ⌝ }
+    ensures { λ r. ⌜ AnsweredBytes at (now (area .entry)) (now (area .exit)) (extendSaid r)
         (rule9 (now (b .entry)) (node ∷ []) ∷ rule12 (now (b .entry)) (now (area .entry)) (wordsFrom (now (records .entry))) count
         ∷ rule13 (now (b .entry)) (now (area .entry)) (recordsIn (wordsFrom (now (records .entry))) count)
         ∷ rule11 (wholeRecords (wordsFrom (now (records .entry))))
@@ -118,7 +114,7 @@ pub fn extend_records_bytes(
     let mut room = wide_room();
     let read = read_records(records, count, &mut room);
     let fit = at_most(whole, 2561);
-    let extended = extend_records(b, n, l, p, area, &mut room[0..3 * fit], read, node);
+    let extended = extend_records(b, at.sizes.nodes, at.sizes.links, at.sizes.ports, area, &mut room[0..3 * fit], read, node);
     let ExtendAnswer::Records(made) = extended else {
         return extended;
     };
@@ -129,16 +125,14 @@ pub fn extend_records_bytes(
 // The nodes in records in bytes, by position, then number, into a buffer of bytes: refusals 12, 13, 11.
 pub fn nodes_of_records_bytes(
     b: &[u8],
-    n: usize,
-    l: usize,
-    p: usize,
+    at: Layout,
     area: &mut [u16],
     records: &[u8],
     count: usize,
     buffer: &mut [u8],
 ) -> NodesAnswer
-    requires { ⌜ Usable (now b) (now area) n l p ⌝ }
-    ensures { λ r. ⌜ AnsweredBytes n l p (now (area .entry)) (now (area .exit)) (nodesSaid r)
+    requires { ⌜ Usable (now b) (now area) at ⌝ }
+    ensures { λ r. ⌜ AnsweredBytes at (now (area .entry)) (now (area .exit)) (nodesSaid r)
         (rule12 (now (b .entry)) (now (area .entry)) (wordsFrom (now (records .entry))) count
         ∷ rule13 (now (b .entry)) (now (area .entry)) (recordsIn (wordsFrom (now (records .entry))) count)
         ∷ rule11 (length (wordsFrom (now (buffer .entry))))
@@ -155,7 +149,7 @@ pub fn nodes_of_records_bytes(
     let read = read_records(records, count, &mut room);
     let mut nodes = node_words();
     let fit = at_most(buffer.len() / 2, 512);
-    let found = nodes_of_records(b, n, l, p, area, &room, read, &mut nodes[0..fit]);
+    let found = nodes_of_records(b, at.sizes.nodes, at.sizes.links, at.sizes.ports, area, &room, read, &mut nodes[0..fit]);
     let NodesAnswer::Nodes(made) = found else {
         return found;
     };

@@ -21,7 +21,7 @@ use Rattle.order_theory.proofs.Queued.{queued}
 use Rattle.order_theory.proofs.Refusals.{sound}
 use Rattle.lines_theory.proofs.Prepared.{tables-sized, written-long}
 use Rattle.counting_sort.specs.Sorted.{startsBy, sortedBy}
-use Rattle.links_by_port.specs.Tabled.{byPort}
+use Rattle.neighbours.specs.Tabled.{byPort}
 use Rattle.toposort.specs.Standing.{Indexed, Standing, openInputs, laid}
 use Rattle.toposort.specs.Laid.{Ready, firstsAt, keysAt, startsAt, sortedAt, countsAt, indexed, orderLaid, zeroed}
 use Rattle.toposort.proofs.Running.{standing}

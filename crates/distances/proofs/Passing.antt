@@ -13,10 +13,10 @@ use Rattle.lists.proofs.Sections.{part, length-part, getD-part, part-suc}
 use Rattle.paper.specs.Map.{N, L, outNeighbours}
 use Rattle.order_theory.specs.Sound.{Sound}
 use Rattle.order_theory.proofs.Refusals.{sound}
-use Rattle.neighbours.specs.declared.Places.{Places}
+use Rattle.neighbours.specs.declared.both.Places.{Places}
 use Rattle.neighbours.specs.Linked.{outStart, outTarget}
 use Rattle.neighbours.proofs.Targets.{out-fits, out-rises, target-known, targets-are}
-use Rattle.neighbours.proofs.Keeping.{linked-kept}
+use Rattle.neighbours.proofs.KeepingBy.{linked-kept}
 use Rattle.tables.specs.Within.{Within}
 use Rattle.walk_theory.proofs.Joined.{joined-known}
 use Rattle.distances.specs.Met.{Met, metSize}

@@ -6,7 +6,7 @@ use mathlib.Core.Path.{_≡_, sym, ap, _∙_}
 use mathlib.Core.List.{List, [], _∷_, _++_}
 use lib.ListN.{length, getD}
 use Rattle.paper.specs.Map.{outNeighbours}
-use Rattle.neighbours.specs.declared.Places.{Places}
+use Rattle.neighbours.specs.declared.both.Places.{Places}
 use Rattle.neighbours.specs.Linked.{outStart, outTarget}
 use Rattle.distances.specs.Met.{Met, Joins}
 use Rattle.distances.specs.Reached.{Standing, targetsIn}

@@ -7,7 +7,7 @@ use lib.ListN.{getD}
 use Rattle.lists.specs.Found.{Found, absent, listed}
 use Rattle.lists.proofs.Upto.{at-the-end}
 use Rattle.paper.specs.Map.{outNeighbours}
-use Rattle.neighbours.specs.declared.Places.{Places}
+use Rattle.neighbours.specs.declared.both.Places.{Places}
 use Rattle.neighbours.specs.Linked.{outStart, outTarget}
 use Rattle.distances.specs.Met.{Met, listedOf}
 use Rattle.distances.specs.Reached.{Standing, targetsIn}

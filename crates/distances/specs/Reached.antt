@@ -8,8 +8,8 @@ use Rattle.lists.specs.Lists.{member}
 use Rattle.lists.proofs.Sections.{part}
 use Rattle.paper.specs.Map.{outNeighbours}
 use Rattle.paper.specs.Path.{rounds, levelAt}
-use Rattle.neighbours.specs.Linked.{Linked}
-use Rattle.neighbours.specs.declared.Places.{Places}
+use Rattle.neighbours.specs.LinkedBy.{Linked}
+use Rattle.neighbours.specs.declared.both.Places.{Places}
 use Rattle.distances.specs.Met.{Met, tells, metSize}
 
 -- up to distance d, marks and distances tell a list's levels

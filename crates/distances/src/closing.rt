@@ -1,9 +1,9 @@
 // The first distance at which a step is linked to the list again, and the smallest listed step that it is linked to.
 use super::queue::at_distance;
 use super::rounds::round;
-use neighbours::Places;
-use neighbours::target_at;
-use neighbours::targets_start;
+use neighbours::both::Places;
+use neighbours::both::target_at;
+use neighbours::both::targets_start;
 use words::section::word_at;
 ghost use mathlib.Core.Path.{_≡_};
 ghost use mathlib.Core.List.{[], _∷_, _++_};

@@ -1,8 +1,8 @@
 // A round: what the nodes at one distance are linked to joins at the next.
 use super::queue::join;
-use neighbours::Places;
-use neighbours::target_at;
-use neighbours::targets_start;
+use neighbours::both::Places;
+use neighbours::both::target_at;
+use neighbours::both::targets_start;
 use words::section::word_at;
 ghost use Prim.Native.Nat.{_<_, _≤_};
 ghost use Rattle.paper.specs.Map.{outNeighbours};

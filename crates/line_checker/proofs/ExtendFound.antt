@@ -21,12 +21,15 @@ use Rattle.extension.specs.declared.Extended.{Extended}
 use Rattle.extension.specs.declared.Extended.the-variants.{Records as Made, NotExtendable}
 use Rattle.records.specs.Tested.{Tested, checkedSaid}
 use Rattle.records.specs.declared.Checked.{Checked}
-use Rattle.tables.specs.AnsweredBy.{AnsweredInto}
-use Rattle.tables.specs.UsableBy.{Usable}
+use Rattle.tables.specs.declared.Layout.{Layout}
+use Rattle.tables.specs.Answered.{AnsweredInto}
+use Rattle.tables.specs.Usable.{Usable}
+use Rattle.tables.proofs.Bridge.{scratched-at}
 use Rattle.tables.proofs.Within.{within-none}
-use Rattle.tables.proofs.UsableBy.{tables-still}
+use Rattle.tables.proofs.Usable.{tables-still}
 use Rattle.line_checker.proofs.Records.{Wrote, wrote-some, wrote-none, begun-long}
-use Rattle.intervals.proofs.Into.{Into, into-refused, into-answered}
+use Rattle.intervals.proofs.Into.{Into, into-refused}
+use Rattle.line_checker.proofs.ByPlaces.{into-answered}
 use Rattle.line_checker.proofs.Into.{none-into, long-into, fit-into}
 use Rattle.line_checker.proofs.RecordCalls.{into-after, known-node, unknown-node, records-refused, records-passed-both}
 
@@ -36,9 +39,9 @@ Rules words found = rule11 (wholeRecords words) (needed found) ∷ []
 
 -- ---- from the records that extending left in the room
 
-module _ (n l p : ℕ) {b a words : List ℕ} {count v : ℕ} {room : List ℕ} {r : Extended} {ws : List ℕ} (got : ExtendsTo b a words count v room r ws) where
+module _ (at : Layout) {b a words : List ℕ} {count v : ℕ} {room : List ℕ} {r : Extended} {ws : List ℕ} (got : ExtendsTo b a words count v room r ws) where
   pub not-into : r ≡ NotExtendable
-      → AnsweredInto n l p a a (answered foundApart) (Rules words (extend b a (recordsIn words count) v)) (said (extend b a (recordsIn words count) v)) words
+      → AnsweredInto at a a (answered foundApart) (Rules words (extend b a (recordsIn words count) v)) (said (extend b a (recordsIn words count) v)) words
       words
       (wordsOf (extend b a (recordsIn words count) v))
   not-into e =
@@ -63,14 +66,14 @@ module _ (n l p : ℕ) {b a words : List ℕ} {count v : ℕ} {room : List ℕ} 
         )
 
     pub extended-long : length words / 3 < made
-        → AnsweredInto n l p a a (refused 11 made) (Rules words (extend b a (recordsIn words count) v)) (said (extend b a (recordsIn words count) v)) words
+        → AnsweredInto at a a (refused 11 made) (Rules words (extend b a (recordsIn words count) v)) (said (extend b a (recordsIn words count) v)) words
         words
         (wordsOf (extend b a (recordsIn words count) v))
     unfolding wholeRecords
     extended-long h = into-answered within-none (long-into (extend b a (recordsIn words count) v) words held h)
 
     pub extended-fit : made ≤ length words / 3 → {after : List ℕ} → after ≡ sets words 0 (take (3 * made) ws)
-        → AnsweredInto n l p a a (answered (wrote made)) (Rules words (extend b a (recordsIn words count) v)) (said (extend b a (recordsIn words count) v))
+        → AnsweredInto at a a (answered (wrote made)) (Rules words (extend b a (recordsIn words count) v)) (said (extend b a (recordsIn words count) v))
         words
         after
         (wordsOf (extend b a (recordsIn words count) v))
@@ -83,9 +86,9 @@ abbrev AllRules : List ℕ → List ℕ → List ℕ → ℕ → ℕ → List Ru
 AllRules b a words count v =
     rule9 b (v ∷ []) ∷ rule12 b a words count ∷ rule13 b a (recordsIn words count) ∷ Rules words (extend b a (recordsIn words count) v)
 
-module _ {b a : List ℕ} {n l p : ℕ} (usable : Usable b a n l p) (v : ℕ) (words : List ℕ) (count : ℕ) where
-  pub node-unknown : n ≤ v
-      → AnsweredInto n l p a a (refused 9 0) (AllRules b a words count v) (said (extend b a (recordsIn words count) v)) words words
+module _ {b a : List ℕ} {at : Layout} (usable : Usable b a at) (v : ℕ) (words : List ℕ) (count : ℕ) where
+  pub node-unknown : at .sizes .nodes ≤ v
+      → AnsweredInto at a a (refused 9 0) (AllRules b a words count v) (said (extend b a (recordsIn words count) v)) words words
       (wordsOf (extend b a (recordsIn words count) v))
   unfolding decide
   node-unknown h =
@@ -95,17 +98,17 @@ module _ {b a : List ℕ} {n l p : ℕ} (usable : Usable b a n l p) (v : ℕ) (w
       (unknown-node b (usable .read .nodes) v h))
       )
 
-module _ {b a : List ℕ} {n l p : ℕ} (usable : Usable b a n l p) {words : List ℕ} {count : ℕ} {r : Checked} {m : List ℕ}
-    (tested : Tested b a n l p words count r m) {v : ℕ} (known : v < n) where
+module _ {b a : List ℕ} {at : Layout} (usable : Usable b a at) {words : List ℕ} {count : ℕ} {r : Checked} {m : List ℕ}
+    (tested : Tested b a (at .sizes .nodes) (at .sizes .links) (at .sizes .ports) words count r m) {v : ℕ} (known : v < at .sizes .nodes) where
   passes-9 : passed ≡ decide (rule9 b (v ∷ []) ∷ [])
   unfolding decide
   passes-9 = ap (λ (u : Ruling). decide (u ∷ [])) (known-node b (usable .read .nodes) v known)
 
   pub extend-refused : (x : Refusal) → ruled x ≡ checkedSaid r → checkedSaid r ≢ passed
-      → AnsweredInto n l p a m (refusedBy x) (AllRules b a words count v) (said (extend b a (recordsIn words count) v)) words words
+      → AnsweredInto at a m (refusedBy x) (AllRules b a words count v) (said (extend b a (recordsIn words count) v)) words words
       (wordsOf (extend b a (recordsIn words count) v))
   extend-refused x e ne =
-      into-answered (tested .kept) (
+      into-answered (scratched-at usable (tested .kept)) (
       into-after (rule9 b (v ∷ []) ∷ []) passes-9 (rule12 b a words count ∷ rule13 b a (recordsIn words count) ∷ Rules words (extend b a (recordsIn words count) v))
       (said (extend b a (recordsIn words count) v))
       (into-refused (rule12 b a words count ∷ rule13 b a (recordsIn words count) ∷ Rules words (extend b a (recordsIn words count) v))
@@ -114,17 +117,17 @@ module _ {b a : List ℕ} {n l p : ℕ} (usable : Usable b a n l p) {words : Lis
       )
 
   pub extend-answered : checkedSaid r ≡ passed → {x : Answer Written} {after : List ℕ}
-      → AnsweredInto n l p m m x (Rules words (extend b m (recordsIn words count) v)) (said (extend b m (recordsIn words count) v)) words after
+      → AnsweredInto at m m x (Rules words (extend b m (recordsIn words count) v)) (said (extend b m (recordsIn words count) v)) words after
       (wordsOf (extend b m (recordsIn words count) v))
-      → AnsweredInto n l p a m x (AllRules b a words count v) (said (extend b a (recordsIn words count) v)) words after
+      → AnsweredInto at a m x (AllRules b a words count v) (said (extend b a (recordsIn words count) v)) words after
       (wordsOf (extend b a (recordsIn words count) v))
   extend-answered good {x} {after} got =
-      into-answered (tested .kept) (
+      into-answered (scratched-at usable (tested .kept)) (
       into-after (rule9 b (v ∷ []) ∷ []) passes-9 (rule12 b a words count ∷ rule13 b a (recordsIn words count) ∷ Rules words (extend b a (recordsIn words count) v))
       (said (extend b a (recordsIn words count) v))
       (into-after (rule12 b a words count ∷ rule13 b a (recordsIn words count) ∷ []) (records-passed-both usable tested good)
       (Rules words (extend b a (recordsIn words count) v)) (said (extend b a (recordsIn words count) v))
       (subst (λ (f : Records). Into x (Rules words f) (said f) words after (wordsOf f))
-      (sym (extend-same (tables-still usable (tested .kept)) (recordsIn words count) v (omega (arith, usable .read .nodes))))
+      (sym (extend-same (tables-still usable (scratched-at usable (tested .kept))) (recordsIn words count) v (omega (arith, usable .read .nodes))))
       (record { says = got .says; written = got .written })))
       )

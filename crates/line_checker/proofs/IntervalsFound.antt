@@ -24,11 +24,15 @@ use Rattle.take_in.proofs.Passing.{rule9-is}
 use Rattle.intervals.specs.Answer.{Collected, intervalsSaid, listIn}
 use Rattle.intervals.specs.declared.Intervals.{Intervals}
 use Rattle.intervals.specs.declared.Intervals.the-variants.{Records as Made, NotContiguous}
-use Rattle.tables.specs.AnsweredBy.{AnsweredInto}
-use Rattle.tables.specs.UsableBy.{Usable, Scratched, scratchAt}
+use Rattle.tables.specs.declared.Layout.{Layout}
+use Rattle.tables.specs.Answered.{AnsweredInto}
+use Rattle.tables.specs.Usable.{Usable, Scratched}
+use Rattle.tables.specs.UsableBy.{scratchAt}
+use Rattle.tables.proofs.Bridge.{scratched-at}
 use Rattle.tables.proofs.Within.{within-both}
 use Rattle.line_checker.proofs.Records.{Wrote, wrote-some, wrote-none, begun-long}
-use Rattle.intervals.proofs.Into.{Into, into-refused, into-passed, into-answered, short-enough}
+use Rattle.intervals.proofs.Into.{Into, into-refused, into-passed, short-enough}
+use Rattle.line_checker.proofs.ByPlaces.{into-answered}
 use Rattle.line_checker.proofs.Into.{none-into, long-into, fit-into}
 use Rattle.line_checker.proofs.RecordCalls.{into-after, some-given}
 use Rattle.line_checker.proofs.LineCheck.{found-same}
@@ -39,17 +43,17 @@ Rules buffer found = rule11 (wholeRecords buffer) (needed found) ∷ []
 
 -- ---- from the intervals of the list in the scratch
 
-module _ {b m : List ℕ} {n l p c : ℕ} {rs : List ℕ} {r : Intervals} {ws o : List ℕ} (got : Collected b m n l p c rs r ws o) (buffer : List ℕ) where
+module _ {b m : List ℕ} {at : Layout} (usable : Usable b m at) {c : ℕ} {rs : List ℕ} {r : Intervals} {ws o : List ℕ} (got : Collected b m (at .sizes .nodes) (at .sizes .links) (at .sizes .ports) c rs r ws o) (buffer : List ℕ) where
   pub gap-into : r ≡ NotContiguous
-      → AnsweredInto n l p m o (answered foundApart) (Rules buffer (intervals b m (listIn m n l c))) (said (intervals b m (listIn m n l c))) buffer buffer
-      (wordsOf (intervals b m (listIn m n l c)))
+      → AnsweredInto at m o (answered foundApart) (Rules buffer (intervals b m (listIn m (at .sizes .nodes) (at .sizes .links) c))) (said (intervals b m (listIn m (at .sizes .nodes) (at .sizes .links) c))) buffer buffer
+      (wordsOf (intervals b m (listIn m (at .sizes .nodes) (at .sizes .links) c)))
   gap-into e =
-      into-answered (got .kept)
-      (none-into (intervals b m (listIn m n l c)) buffer (wrote-none (intervals b m (listIn m n l c)) (ap intervalsSaid (sym e) ∙ got .says)))
+      into-answered (scratched-at usable (got .kept))
+      (none-into (intervals b m (listIn m (at .sizes .nodes) (at .sizes .links) c)) buffer (wrote-none (intervals b m (listIn m (at .sizes .nodes) (at .sizes .links) c)) (ap intervalsSaid (sym e) ∙ got .says)))
 
   module _ {made : ℕ} (e : r ≡ Made made) where
-    held : Wrote (intervals b m (listIn m n l c)) made
-    held = wrote-some (intervals b m (listIn m n l c)) made (ap intervalsSaid (sym e) ∙ got .says)
+    held : Wrote (intervals b m (listIn m (at .sizes .nodes) (at .sizes .links) c)) made
+    held = wrote-some (intervals b m (listIn m (at .sizes .nodes) (at .sizes .links) c)) made (ap intervalsSaid (sym e) ∙ got .says)
 
     -- the records stand in the room
     pub records-inside : 3 * made ≤ length ws
@@ -57,23 +61,23 @@ module _ {b m : List ℕ} {n l p c : ℕ} {rs : List ℕ} {r : Intervals} {ws o 
     records-inside =
         omega (
           arith,
-          begun-long ws (wordsOf (intervals b m (listIn m n l c))) (got .written),
+          begun-long ws (wordsOf (intervals b m (listIn m (at .sizes .nodes) (at .sizes .links) c))) (got .written),
           ap (λ (f : Records). length (wordsOf f)) (held .is),
           length-words (held .list),
           held .many,
         )
 
     pub records-long : length buffer / 3 < made
-        → AnsweredInto n l p m o (refused 11 made) (Rules buffer (intervals b m (listIn m n l c))) (said (intervals b m (listIn m n l c))) buffer buffer
-        (wordsOf (intervals b m (listIn m n l c)))
+        → AnsweredInto at m o (refused 11 made) (Rules buffer (intervals b m (listIn m (at .sizes .nodes) (at .sizes .links) c))) (said (intervals b m (listIn m (at .sizes .nodes) (at .sizes .links) c))) buffer buffer
+        (wordsOf (intervals b m (listIn m (at .sizes .nodes) (at .sizes .links) c)))
     unfolding wholeRecords
-    records-long h = into-answered (got .kept) (long-into (intervals b m (listIn m n l c)) buffer held h)
+    records-long h = into-answered (scratched-at usable (got .kept)) (long-into (intervals b m (listIn m (at .sizes .nodes) (at .sizes .links) c)) buffer held h)
 
     pub records-fit : made ≤ length buffer / 3 → {after : List ℕ} → after ≡ sets buffer 0 (take (3 * made) ws)
-        → AnsweredInto n l p m o (answered (wrote made)) (Rules buffer (intervals b m (listIn m n l c))) (said (intervals b m (listIn m n l c))) buffer after
-        (wordsOf (intervals b m (listIn m n l c)))
+        → AnsweredInto at m o (answered (wrote made)) (Rules buffer (intervals b m (listIn m (at .sizes .nodes) (at .sizes .links) c))) (said (intervals b m (listIn m (at .sizes .nodes) (at .sizes .links) c))) buffer after
+        (wordsOf (intervals b m (listIn m (at .sizes .nodes) (at .sizes .links) c)))
     unfolding wholeRecords
-    records-fit h f = into-answered (got .kept) (fit-into (intervals b m (listIn m n l c)) buffer held h ws (got .written) f)
+    records-fit h f = into-answered (scratched-at usable (got .kept)) (fit-into (intervals b m (listIn m (at .sizes .nodes) (at .sizes .links) c)) buffer held h ws (got .written) f)
 
 -- ---- from the caller's list
 
@@ -112,19 +116,19 @@ module _ (b a list buffer : List ℕ) where
         ∙ sym (first-decides (rule9 b list ∷ rule10 list ∷ []) (Rules buffer (intervals b a list)) (λ f. ne (decided ∙ f))))
 
 -- what is written on the area with the list is what the question answers
-module _ {b a : List ℕ} {n l p : ℕ} (usable : Usable b a n l p) {list : List ℕ} {c : ℕ} {m : List ℕ} (nodes : AllNodes n list (scratchAt n l) c m)
-    (kept : Scratched n l p a m) where
+module _ {b a : List ℕ} {at : Layout} (usable : Usable b a at) {list : List ℕ} {c : ℕ} {m : List ℕ} (nodes : AllNodes (at .sizes .nodes) list (scratchAt (at .sizes .nodes) (at .sizes .links)) c m)
+    (kept : Scratched at a m) where
   pub nodes-into : {o : List ℕ} {x : Answer Written} {buffer after : List ℕ}
-      → AnsweredInto n l p m o x (Rules buffer (intervals b m (listIn m n l c))) (said (intervals b m (listIn m n l c))) buffer after
-      (wordsOf (intervals b m (listIn m n l c)))
-      → AnsweredInto n l p a o x (rule9 b list ∷ rule10 list ∷ Rules buffer (intervals b a list)) (said (intervals b a list)) buffer after
+      → AnsweredInto at m o x (Rules buffer (intervals b m (listIn m (at .sizes .nodes) (at .sizes .links) c))) (said (intervals b m (listIn m (at .sizes .nodes) (at .sizes .links) c))) buffer after
+      (wordsOf (intervals b m (listIn m (at .sizes .nodes) (at .sizes .links) c)))
+      → AnsweredInto at a o x (rule9 b list ∷ rule10 list ∷ Rules buffer (intervals b a list)) (said (intervals b a list)) buffer after
       (wordsOf (intervals b a list))
   unfolding decide
   nodes-into {o} {x} {buffer} {after} got =
       into-answered (within-both kept (got .kept)) (
       into-after (rule9 b list ∷ rule10 list ∷ [])
       (sym (
-      ap (λ (u : Ruling). decide (u ∷ rule10 list ∷ [])) (rule9-is b list n (usable .read .nodes) ∙ nodes .none-unknown)
+      ap (λ (u : Ruling). decide (u ∷ rule10 list ∷ [])) (rule9-is b list (at .sizes .nodes) (usable .read .nodes) ∙ nodes .none-unknown)
       ∙ ap (λ (u : Ruling). decide (u ∷ [])) (nodes .none-repeated)
       ))
       (Rules buffer (intervals b a list)) (said (intervals b a list))

@@ -1,3 +1,4 @@
+pub mod ByPlaces
 pub mod Records
 pub mod LineCheck
 pub mod Into

@@ -22,54 +22,57 @@ use Rattle.accepted_theory.proofs.Intervals.{intervals-same, intervals-known}
 use Rattle.accepted_theory.proofs.Walk.{walk-same, lineCheck-same}
 use Rattle.accepted_theory.proofs.recorded.Passing.{intervals-pass-12}
 use Rattle.accepted_theory.proofs.recorded.Reading.{length-words}
-use Rattle.tables.specs.AnsweredBy.{Answered}
-use Rattle.tables.specs.UsableBy.{Usable, Scratched, scratchAt}
+use Rattle.tables.specs.declared.Layout.{Layout}
+use Rattle.tables.specs.Answered.{Answered}
+use Rattle.tables.specs.Usable.{Usable, Scratched}
+use Rattle.tables.specs.UsableBy.{scratchAt}
 use Rattle.tables.specs.Recorded.{Recorded}
+use Rattle.tables.proofs.Bridge.{scratched-at}
 use Rattle.tables.proofs.Within.{within-both}
-use Rattle.tables.proofs.UsableBy.{roomy, tables-still}
+use Rattle.tables.proofs.Usable.{roomy, tables-still}
 use Rattle.take_in.specs.Taking.{Known}
 use Rattle.take_in.proofs.Answers.{AllNodes}
 use Rattle.intervals.specs.Holds.{Listed}
 use Rattle.intervals.specs.Answer.{Collected, intervalsSaid, listIn}
 use Rattle.intervals.specs.declared.Intervals.{Intervals}
 use Rattle.intervals.specs.declared.Intervals.the-variants.{Records as Made, NotContiguous}
-use Rattle.intervals.proofs.Taken.{nodes-below, list-passed}
+use Rattle.line_checker.proofs.ByPlaces.{nodes-below, list-passed}
 use Rattle.walk.specs.Walks.{Walks, walkedSaid}
 use Rattle.walk.specs.declared.turns.Walked.{Walked}
 use Rattle.line_checker.proofs.Records.{Wrote, wrote-some, wrote-none, read-first, begun-long, whole-room, good-still}
 
 -- ---- the nodes in the scratch
 
-module _ {b a : List ℕ} {n l p : ℕ} (usable : Usable b a n l p) {c : ℕ} (there : Listed a (scratchAt n l) c n) where
-  known : Known n (listIn a n l c)
+module _ {b a : List ℕ} {at : Layout} (usable : Usable b a at) {c : ℕ} (there : Listed a (scratchAt (at .sizes .nodes) (at .sizes .links)) c (at .sizes .nodes)) where
+  known : Known (at .sizes .nodes) (listIn a (at .sizes .nodes) (at .sizes .links) c)
   known =
       record {
         entry = λ i h.
-            let inside : i < c = omega (arith, length-part a (scratchAt n l) c (omega (arith, there .few, usable .room))) in
-            subst (λ (x : ℕ). x < n) (sym (getD-part a (scratchAt n l) c i 0 inside)) (there .known i inside);
+            let inside : i < c = omega (arith, length-part a (scratchAt (at .sizes .nodes) (at .sizes .links)) c (omega (arith, there .few, usable .room))) in
+            subst (λ (x : ℕ). x < at .sizes .nodes) (sym (getD-part a (scratchAt (at .sizes .nodes) (at .sizes .links)) c i 0 inside)) (there .known i inside);
       }
 
-  below : Below (N b) (listIn a n l c)
+  below : Below (N b) (listIn a (at .sizes .nodes) (at .sizes .links) c)
   below = nodes-below usable known
 
-  module _ {r : Intervals} {rs words o : List ℕ} (got : Collected b a n l p c rs r words o) where
+  module _ {r : Intervals} {rs words o : List ℕ} (got : Collected b a (at .sizes .nodes) (at .sizes .links) (at .sizes .ports) c rs r words o) where
     -- "no with count 0 when not contiguous"
-    pub gap-answered : r ≡ NotContiguous → Answered n l p a o (answered (No, 0)) [] (lineCheck b a (listIn a n l c))
+    pub gap-answered : r ≡ NotContiguous → Answered at a o (answered (No, 0)) [] (lineCheck b a (listIn a (at .sizes .nodes) (at .sizes .links) c))
     unfolding lineCheck walkOn answer decide
     gap-answered e =
         record {
-          says = ap answered (ap (walkOn b a) (sym (wrote-none (intervals b a (listIn a n l c)) (ap intervalsSaid (sym e) ∙ got .says))));
-          kept = got .kept;
+          says = ap answered (ap (walkOn b a) (sym (wrote-none (intervals b a (listIn a (at .sizes .nodes) (at .sizes .links) c)) (ap intervalsSaid (sym e) ∙ got .says))));
+          kept = scratched-at usable (got .kept);
         }
 
     module _ {made : ℕ} (e : r ≡ Made made) where
-      held : Wrote (intervals b a (listIn a n l c)) made
-      held = wrote-some (intervals b a (listIn a n l c)) made (ap intervalsSaid (sym e) ∙ got .says)
+      held : Wrote (intervals b a (listIn a (at .sizes .nodes) (at .sizes .links) c)) made
+      held = wrote-some (intervals b a (listIn a (at .sizes .nodes) (at .sizes .links) c)) made (ap intervalsSaid (sym e) ∙ got .says)
 
       known-records : Every (KnownRecord b a) (held .list)
       known-records =
           subst (KnownRecords b a) (held .is)
-          (intervals-known (tables-still usable (got .kept)) (listIn a n l c) (every-below (N b) (listIn a n l c) below))
+          (intervals-known (tables-still usable (scratched-at usable (got .kept))) (listIn a (at .sizes .nodes) (at .sizes .links) c) (every-below (N b) (listIn a (at .sizes .nodes) (at .sizes .links) c) below))
 
       -- the words begin with the records
       begins : take (length (wordsOfRecords (held .list))) words ≡ wordsOfRecords (held .list)
@@ -85,14 +88,14 @@ module _ {b a : List ℕ} {n l p : ℕ} (usable : Usable b a n l p) {c : ℕ} (t
       pass-12 : rule12 b a words made ≡ passed
       pass-12 =
           ap (rule12 b a words) (held .many)
-          ∙ intervals-pass-12 (usable .tables) (roomy usable) (listIn a n l c) below (held .is) words (ap (recordsIn words) (sym (held .many)) ∙ reads)
+          ∙ intervals-pass-12 (usable .tables) (roomy usable) (listIn a (at .sizes .nodes) (at .sizes .links) c) below (held .is) words (ap (recordsIn words) (sym (held .many)) ∙ reads)
           (omega (arith, whole-room words made fits, held .many))
 
       pub recorded : Recorded b o words made
-      recorded = good-still (tables-still usable (got .kept)) words made fits pass-12
+      recorded = good-still (tables-still usable (scratched-at usable (got .kept))) words made fits pass-12
 
-      pub walk-answered : {q : List ℕ} {w : Walked} → Walks b o words made n l p w q → {y : Answer (Reply × ℕ)} → y ≡ answered (walkedSaid w)
-          → Answered n l p a q y [] (lineCheck b a (listIn a n l c))
+      pub walk-answered : {q : List ℕ} {w : Walked} → Walks b o words made at w q → {y : Answer (Reply × ℕ)} → y ≡ answered (walkedSaid w)
+          → Answered at a q y [] (lineCheck b a (listIn a (at .sizes .nodes) (at .sizes .links) c))
       unfolding lineCheck walkOn answer decide
       walk-answered walked f =
           record {
@@ -100,26 +103,26 @@ module _ {b a : List ℕ} {n l p : ℕ} (usable : Usable b a n l p) {c : ℕ} (t
                 f
                 ∙ ap answered (
                 walked .said ∙ ap (walk b o) reads
-                ∙ sym (walk-same (tables-still usable (got .kept)) (sound b (usable .links)) (held .list) known-records)
+                ∙ sym (walk-same (tables-still usable (scratched-at usable (got .kept))) (sound b (usable .links)) (held .list) known-records)
                 ∙ ap (walkOn b a) (sym (held .is))
                 );
-            kept = within-both (got .kept) (walked .kept);
+            kept = within-both (scratched-at usable (got .kept)) (walked .kept);
           }
 
 -- ---- a list that was taken in
 
-module _ {b a : List ℕ} {n l p : ℕ} (usable : Usable b a n l p) {list : List ℕ} {c : ℕ} {m : List ℕ} (nodes : AllNodes n list (scratchAt n l) c m)
-    (kept : Scratched n l p a m) where
+module _ {b a : List ℕ} {at : Layout} (usable : Usable b a at) {list : List ℕ} {c : ℕ} {m : List ℕ} (nodes : AllNodes (at .sizes .nodes) list (scratchAt (at .sizes .nodes) (at .sizes .links)) c m)
+    (kept : Scratched at a m) where
   every : Every (KnownNode b) list
   every = every-below (N b) list (nodes-below usable (nodes .known))
 
   -- the intervals on the area with the list are those on the area before
-  pub found-same : intervals b m (part m (scratchAt n l) c) ≡ intervals b a list
+  pub found-same : intervals b m (part m (scratchAt (at .sizes .nodes) (at .sizes .links)) c) ≡ intervals b a list
   found-same = ap (intervals b m) (nodes .stands) ∙ sym (intervals-same (tables-still usable kept) list every)
 
   -- what is answered on the area with the list is what the question answers
-  pub list-checked : {o : List ℕ} {x : Answer (Reply × ℕ)} → Answered n l p m o x [] (lineCheck b m (listIn m n l c))
-      → Answered n l p a o x (lineRules b list) (lineCheck b a list)
+  pub list-checked : {o : List ℕ} {x : Answer (Reply × ℕ)} → Answered at m o x [] (lineCheck b m (listIn m (at .sizes .nodes) (at .sizes .links) c))
+      → Answered at a o x (lineRules b list) (lineCheck b a list)
   unfolding decide
   list-checked got =
       record {

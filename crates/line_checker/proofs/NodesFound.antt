@@ -12,11 +12,14 @@ use Rattle.accepted_theory.proofs.Records.{nodesIn-same}
 use Rattle.nodes_in.specs.Collected.{FoundIn}
 use Rattle.records.specs.Tested.{Tested, checkedSaid}
 use Rattle.records.specs.declared.Checked.{Checked}
-use Rattle.tables.specs.AnsweredBy.{AnsweredInto}
-use Rattle.tables.specs.UsableBy.{Usable}
+use Rattle.tables.specs.declared.Layout.{Layout}
+use Rattle.tables.specs.Answered.{AnsweredInto}
+use Rattle.tables.specs.Usable.{Usable}
+use Rattle.tables.proofs.Bridge.{scratched-at}
 use Rattle.tables.proofs.Within.{within-none}
-use Rattle.tables.proofs.UsableBy.{tables-still}
-use Rattle.intervals.proofs.Into.{Into, into-refused, into-passed, into-answered, too-long, short-enough}
+use Rattle.tables.proofs.Usable.{tables-still}
+use Rattle.intervals.proofs.Into.{Into, into-refused, into-passed, too-long, short-enough}
+use Rattle.line_checker.proofs.ByPlaces.{into-answered}
 use Rattle.line_checker.proofs.Records.{begun-long}
 use Rattle.line_checker.proofs.RecordCalls.{into-after, records-passed-both}
 
@@ -28,11 +31,11 @@ pub nodes-inside : {b a words : List ℕ} {count : ℕ} {room : List ℕ} {r : �
 nodes-inside {r = r} {o} got =
     omega (arith, begun-long o _ (ap (λ (k : ℕ). take k o) (sym (got .number)) ∙ got .nodes), got .number)
 
-module _ (n l p : ℕ) {b a words : List ℕ} {count : ℕ} {room : List ℕ} {r : ℕ} {o : List ℕ} (got : FoundIn b a words count room r o) (buffer : List ℕ) where
+module _ (at : Layout) {b a words : List ℕ} {count : ℕ} {room : List ℕ} {r : ℕ} {o : List ℕ} (got : FoundIn b a words count room r o) (buffer : List ℕ) where
   found : List ℕ
   found = nodesIn b a (recordsIn words count)
 
-  pub nodes-long : length buffer < r → AnsweredInto n l p a a (refused 11 r) (Rules buffer (nodesIn b a (recordsIn words count)))
+  pub nodes-long : length buffer < r → AnsweredInto at a a (refused 11 r) (Rules buffer (nodesIn b a (recordsIn words count)))
       (length (nodesIn b a (recordsIn words count))) buffer buffer (nodesIn b a (recordsIn words count))
   unfolding found
   nodes-long h =
@@ -42,7 +45,7 @@ module _ (n l p : ℕ) {b a words : List ℕ} {count : ℕ} {room : List ℕ} {r
       )
 
   pub nodes-fit : r ≤ length buffer → {after : List ℕ} → after ≡ sets buffer 0 (take r o)
-      → AnsweredInto n l p a a (answered r) (Rules buffer (nodesIn b a (recordsIn words count))) (length (nodesIn b a (recordsIn words count)))
+      → AnsweredInto at a a (answered r) (Rules buffer (nodesIn b a (recordsIn words count))) (length (nodesIn b a (recordsIn words count)))
       buffer
       after
       (nodesIn b a (recordsIn words count))
@@ -57,18 +60,18 @@ module _ (n l p : ℕ) {b a words : List ℕ} {count : ℕ} {room : List ℕ} {r
 
 -- ---- on the area after the test of the records
 
-module _ {b a : List ℕ} {n l p : ℕ} (usable : Usable b a n l p) {words : List ℕ} {count : ℕ} {r : Checked} {m : List ℕ}
-    (tested : Tested b a n l p words count r m) (good : checkedSaid r ≡ passed) where
+module _ {b a : List ℕ} {at : Layout} (usable : Usable b a at) {words : List ℕ} {count : ℕ} {r : Checked} {m : List ℕ}
+    (tested : Tested b a (at .sizes .nodes) (at .sizes .links) (at .sizes .ports) words count r m) (good : checkedSaid r ≡ passed) where
   pub nodes-answered : {x : Answer ℕ} {buffer after : List ℕ}
-      → AnsweredInto n l p m m x (Rules buffer (nodesIn b m (recordsIn words count))) (length (nodesIn b m (recordsIn words count))) buffer after
+      → AnsweredInto at m m x (Rules buffer (nodesIn b m (recordsIn words count))) (length (nodesIn b m (recordsIn words count))) buffer after
       (nodesIn b m (recordsIn words count))
-      → AnsweredInto n l p a m x (rule12 b a words count ∷ rule13 b a (recordsIn words count) ∷ Rules buffer (nodesIn b a (recordsIn words count)))
+      → AnsweredInto at a m x (rule12 b a words count ∷ rule13 b a (recordsIn words count) ∷ Rules buffer (nodesIn b a (recordsIn words count)))
       (length (nodesIn b a (recordsIn words count))) buffer after (nodesIn b a (recordsIn words count))
   nodes-answered {x} {buffer} {after} got =
-      into-answered (tested .kept) (
+      into-answered (scratched-at usable (tested .kept)) (
       into-after (rule12 b a words count ∷ rule13 b a (recordsIn words count) ∷ []) (records-passed-both usable tested good)
       (Rules buffer (nodesIn b a (recordsIn words count))) (length (nodesIn b a (recordsIn words count)))
       (subst (λ (ns : List ℕ). Into x (Rules buffer ns) (length ns) buffer after ns)
-      (sym (nodesIn-same (tables-still usable (tested .kept)) (recordsIn words count)))
+      (sym (nodesIn-same (tables-still usable (scratched-at usable (tested .kept))) (recordsIn words count)))
       (record { says = got .says; written = got .written }))
       )

@@ -42,11 +42,14 @@ use Rattle.refusals.proofs.Rulings.{no-refusal, head-passed, first-decides, the
 use Rattle.records.specs.Tested.{Tested, checkedSaid}
 use Rattle.records.specs.declared.Checked.{Checked}
 use Rattle.records.specs.declared.Checked.the-variants.{Refused}
+use Rattle.tables.specs.declared.Layout.{Layout}
 use Rattle.tables.specs.Recorded.{Recorded, Slotted}
-use Rattle.tables.specs.UsableBy.{Usable, scratchAt}
-use Rattle.tables.specs.AnsweredBy.{Answered}
+use Rattle.tables.specs.Usable.{Usable}
+use Rattle.tables.specs.UsableBy.{scratchAt}
+use Rattle.tables.specs.Answered.{Answered}
+use Rattle.tables.proofs.Bridge.{scratched-at}
 use Rattle.tables.proofs.Within.{within-none, within-both}
-use Rattle.tables.proofs.UsableBy.{tables-still}
+use Rattle.tables.proofs.Usable.{tables-still}
 use Rattle.walk.specs.Walks.{Walks, walkedSaid}
 use Rattle.walk.specs.declared.turns.Walked.{Walked}
 use Rattle.intervals.proofs.Into.{Into}
@@ -83,8 +86,8 @@ module _ (b : List ℕ) {n : ℕ} (nodes : N b ≡ n) (v : ℕ) where
   unfolding rule9 refuse earliest
   known-node h = ap (λ (t : Bool). refuse 9 (placed t 0)) (sym (lt-leb (N b) v (omega (arith, nodes))))
 
-module _ {b a : List ℕ} {n l p : ℕ} (usable : Usable b a n l p) {words : List ℕ} {count : ℕ} {r : Checked} {m : List ℕ}
-    (tested : Tested b a n l p words count r m) where
+module _ {b a : List ℕ} {at : Layout} (usable : Usable b a at) {words : List ℕ} {count : ℕ} {r : Checked} {m : List ℕ}
+    (tested : Tested b a (at .sizes .nodes) (at .sizes .links) (at .sizes .ports) words count r m) where
   -- a refusal by 12 or 13 decides, whatever is asked after them
   pub records-refused : {u : Ruling} → u ≡ checkedSaid r → checkedSaid r ≢ passed → (rest : List Ruling)
       → u ≡ decide (rule12 b a words count ∷ rule13 b a (recordsIn words count) ∷ rest)
@@ -100,19 +103,19 @@ module _ {b a : List ℕ} {n l p : ℕ} (usable : Usable b a n l p) {words : Lis
     recorded-still =
         record {
           fits = tested .recorded good .fits;
-          good = λ i h. sym (badRecord-same (tables-still usable (tested .kept)) words i) ∙ tested .recorded good .good i h;
+          good = λ i h. sym (badRecord-same (tables-still usable (scratched-at usable (tested .kept))) words i) ∙ tested .recorded good .good i h;
         }
 
     pub walk-still : walk b m (recordsIn words count) ≡ walk b a (recordsIn words count)
     walk-still =
         sym (
-        walk-same (tables-still usable (tested .kept)) (sound b (usable .links)) (recordsIn words count)
+        walk-same (tables-still usable (scratched-at usable (tested .kept))) (sound b (usable .links)) (recordsIn words count)
         (records-passed b a words count (sym (head-passed (rule12 b a words count) (rule13 b a (recordsIn words count) ∷ []) records-passed-both .0)))
         )
 
-    pub slotted-still : Slotted m words count (scratchAt n l) (scratchAt n l + (n + l)) (K b m)
+    pub slotted-still : Slotted m words count (scratchAt (at .sizes .nodes) (at .sizes .links)) (scratchAt (at .sizes .nodes) (at .sizes .links) + (at .sizes .nodes + at .sizes .links)) (K b m)
     slotted-still =
-        subst (Slotted m words count (scratchAt n l) (scratchAt n l + (n + l))) (tables-still usable (tested .kept) .count) (tested .slotted good)
+        subst (Slotted m words count (scratchAt (at .sizes .nodes) (at .sizes .links)) (scratchAt (at .sizes .nodes) (at .sizes .links) + (at .sizes .nodes + at .sizes .links))) (tables-still usable (scratched-at usable (tested .kept)) .count) (tested .slotted good)
 
 -- records that are not good are refused
 pub is-bad : {r : Checked} {x : Refusal} → r ≡ Refused x → checkedSaid r ≢ passed
@@ -120,8 +123,8 @@ is-bad e f = no-refusal (sym f ∙ ap checkedSaid e)
 
 -- ---- the check by records
 
-module _ {A : Type 0} (n l p : ℕ) {a : List ℕ} (rest : List Ruling) (x : A) where
-  pub no-records : {count : ℕ} → count ≡ 0 → Answered n l p a a (refused 8 0) (rule8 count ∷ rest) x
+module _ {A : Type 0} (at : Layout) {a : List ℕ} (rest : List Ruling) (x : A) where
+  pub no-records : {count : ℕ} → count ≡ 0 → Answered at a a (refused 8 0) (rule8 count ∷ rest) x
   unfolding answer decide
   no-records {count} e =
       record {
@@ -129,8 +132,8 @@ module _ {A : Type 0} (n l p : ℕ) {a : List ℕ} (rest : List Ruling) (x : A) 
         kept = within-none;
       }
 
-module _ {b a : List ℕ} {n l p : ℕ} (usable : Usable b a n l p) {words : List ℕ} {count : ℕ} {r : Checked} {m : List ℕ}
-    (tested : Tested b a n l p words count r m) (some : count ≢ 0) where
+module _ {b a : List ℕ} {at : Layout} (usable : Usable b a at) {words : List ℕ} {count : ℕ} {r : Checked} {m : List ℕ}
+    (tested : Tested b a (at .sizes .nodes) (at .sizes .links) (at .sizes .ports) words count r m) (some : count ≢ 0) where
   rules : List Ruling
   rules = rule12 b a words count ∷ rule13 b a (recordsIn words count) ∷ []
 
@@ -139,19 +142,19 @@ module _ {b a : List ℕ} {n l p : ℕ} (usable : Usable b a n l p) {words : Lis
   given = ap (λ (u : Ruling). decide (u ∷ [])) (some-given count some)
 
   pub by-records-refused : (u : Refusal) → ruled u ≡ checkedSaid r → checkedSaid r ≢ passed
-      → Answered n l p a m (refusedBy u) (rule8 count ∷ rule12 b a words count ∷ rule13 b a (recordsIn words count) ∷ []) (walk b a (recordsIn words count))
+      → Answered at a m (refusedBy u) (rule8 count ∷ rule12 b a words count ∷ rule13 b a (recordsIn words count) ∷ []) (walk b a (recordsIn words count))
   unfolding answer rules
   by-records-refused u e ne =
       record {
         says =
             said-after (rule8 count ∷ []) given rules (walk b a (recordsIn words count))
             (ap (λ (u : Ruling). answer u (walk b a (recordsIn words count))) (records-refused usable tested e ne []));
-        kept = tested .kept;
+        kept = scratched-at usable (tested .kept);
       }
 
-  pub by-records-walked : checkedSaid r ≡ passed → {o : List ℕ} {w : Walked} → Walks b m words count n l p w o → {y : Answer (Reply × ℕ)}
+  pub by-records-walked : checkedSaid r ≡ passed → {o : List ℕ} {w : Walked} → Walks b m words count at w o → {y : Answer (Reply × ℕ)}
       → y ≡ answered (walkedSaid w)
-      → Answered n l p a o y (rule8 count ∷ rule12 b a words count ∷ rule13 b a (recordsIn words count) ∷ []) (walk b a (recordsIn words count))
+      → Answered at a o y (rule8 count ∷ rule12 b a words count ∷ rule13 b a (recordsIn words count) ∷ []) (walk b a (recordsIn words count))
   unfolding answer rules
   by-records-walked good walked e =
       record {
@@ -159,5 +162,5 @@ module _ {b a : List ℕ} {n l p : ℕ} (usable : Usable b a n l p) {words : Lis
             said-after (rule8 count ∷ []) given rules (walk b a (recordsIn words count))
             (e ∙ ap answered (walked .said ∙ walk-still usable tested good)
             ∙ ap (λ (u : Ruling). answer u (walk b a (recordsIn words count))) (records-passed-both usable tested good));
-        kept = within-both (tested .kept) (walked .kept);
+        kept = within-both (scratched-at usable (tested .kept)) (walked .kept);
       }

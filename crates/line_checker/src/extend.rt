@@ -7,8 +7,9 @@ ghost use Rattle.paper.specs.Calls.{needed, said, wordsOf};
 ghost use Rattle.paper.specs.Records.{extend as extended, recordsIn};
 ghost use Rattle.paper.specs.Refusals.{rule9, rule11, rule12, rule13, wholeRecords};
 ghost use Rattle.tables.specs.Recorded.{Recorded, Slotted};
-ghost use Rattle.tables.specs.UsableBy.{Usable, scratchAt};
-ghost use Rattle.tables.specs.AnsweredBy.{AnsweredInto};
+ghost use Rattle.tables.specs.Usable.{Usable};
+ghost use Rattle.tables.specs.UsableBy.{scratchAt};
+ghost use Rattle.tables.specs.Answered.{AnsweredInto};
 ghost use Rattle.answers.specs.Said.{extendSaid};
 use super::room::copy_out;
 use super::room::record_room;
@@ -19,23 +20,22 @@ use records::Checked;
 use records::check_records;
 use records::record_refusal;
 use refusals::Refusal;
+use tables::Layout;
 
 // Extends records that may be used by a known node: 11 if the records then do not fit their buffer.
 fn write_extended(
     b: &[u8],
-    n: usize,
-    l: usize,
-    p: usize,
+    at: Layout,
     area: &[u16],
     records: &mut [u16],
     count: usize,
     node: usize,
 ) -> ExtendAnswer
-    requires { ⌜ Usable (now b) (now area) n l p ⌝ }
+    requires { ⌜ Usable (now b) (now area) at ⌝ }
     requires { ⌜ Recorded (now b) (now area) (now records) count ⌝ }
-    requires { ⌜ Slotted (now area) (now records) count (scratchAt n l) (scratchAt n l + (n + l)) (K (now b) (now area)) ⌝ }
-    requires { ⌜ node < n ⌝ }
-    ensures { λ r. ⌜ AnsweredInto n l p (now (area .entry)) (now (area .entry)) (extendSaid r)
+    requires { ⌜ Slotted (now area) (now records) count (scratchAt (at .sizes .nodes) (at .sizes .links)) (scratchAt (at .sizes .nodes) (at .sizes .links) + (at .sizes .nodes + at .sizes .links)) (K (now b) (now area)) ⌝ }
+    requires { ⌜ node < at .sizes .nodes ⌝ }
+    ensures { λ r. ⌜ AnsweredInto at (now (area .entry)) (now (area .entry)) (extendSaid r)
         (rule11 (wholeRecords (now (records .entry)))
         (needed (extended (now (b .entry)) (now (area .entry)) (recordsIn (now (records .entry)) count) node)) ∷ [])
         (said (extended (now (b .entry)) (now (area .entry)) (recordsIn (now (records .entry)) count) node))
@@ -43,7 +43,7 @@ fn write_extended(
         (wordsOf (extended (now (b .entry)) (now (area .entry)) (recordsIn (now (records .entry)) count) node)) ⌝ }
 {
     let mut room = record_room();
-    let found = extend(b, n, l, p, area, records, count, node, &mut room);
+    let found = extend(b, at.sizes.nodes, at.sizes.links, at.sizes.ports, area, records, count, node, &mut room);
     let Extended::Records(made) = found else {
         return ExtendAnswer::NotExtendable;
     };
@@ -57,16 +57,14 @@ fn write_extended(
 // Extends records by a node, in their own buffer: refusals 9, 12, 13, then 11.
 pub fn extend_records(
     b: &[u8],
-    n: usize,
-    l: usize,
-    p: usize,
+    at: Layout,
     area: &mut [u16],
     records: &mut [u16],
     count: usize,
     node: usize,
 ) -> ExtendAnswer
-    requires { ⌜ Usable (now b) (now area) n l p ⌝ }
-    ensures { λ r. ⌜ AnsweredInto n l p (now (area .entry)) (now (area .exit)) (extendSaid r)
+    requires { ⌜ Usable (now b) (now area) at ⌝ }
+    ensures { λ r. ⌜ AnsweredInto at (now (area .entry)) (now (area .exit)) (extendSaid r)
         (rule9 (now (b .entry)) (node ∷ []) ∷ rule12 (now (b .entry)) (now (area .entry)) (now (records .entry)) count
         ∷ rule13 (now (b .entry)) (now (area .entry)) (recordsIn (now (records .entry)) count)
         ∷ rule11 (wholeRecords (now (records .entry)))
@@ -75,12 +73,12 @@ pub fn extend_records(
         (now (records .entry)) (now (records .exit))
         (wordsOf (extended (now (b .entry)) (now (area .entry)) (recordsIn (now (records .entry)) count) node)) ⌝ }
 {
-    if n <= node {
+    if at.sizes.nodes <= node {
         return ExtendAnswer::Refused(Refusal::Unknown(0));
     }
-    let checked = check_records(b, n, l, p, area, records, count);
+    let checked = check_records(b, at.sizes.nodes, at.sizes.links, at.sizes.ports, area, records, count);
     let Checked::Good = checked else {
         return ExtendAnswer::Refused(record_refusal(checked));
     };
-    write_extended(b, n, l, p, area, records, count, node)
+    write_extended(b, at, area, records, count, node)
 }

@@ -6,11 +6,12 @@ ghost use Rattle.paper.specs.Calls.{lineRules};
 ghost use Rattle.paper.specs.Records.{recordsIn};
 ghost use Rattle.paper.specs.Refusals.{answered, rule8, rule12, rule13};
 ghost use Rattle.paper.specs.Walk.{lineCheck, walk as walkOf};
-ghost use Rattle.tables.specs.UsableBy.{Usable, scratchAt};
+ghost use Rattle.tables.specs.Usable.{Usable};
+ghost use Rattle.tables.specs.UsableBy.{scratchAt};
 ghost use Rattle.intervals.specs.Answer.{listIn};
 ghost use Rattle.intervals.specs.Holds.{Listed};
 ghost use Rattle.walk.specs.Walks.{walkedSaid};
-ghost use Rattle.tables.specs.AnsweredBy.{Answered};
+ghost use Rattle.tables.specs.Answered.{Answered};
 ghost use Rattle.answers.specs.Said.{lineSaid};
 use super::room::record_room;
 use answers::LineAnswer;
@@ -20,6 +21,7 @@ use records::Checked;
 use records::check_records;
 use records::record_refusal;
 use refusals::Refusal;
+use tables::Layout;
 use take_in::Taken;
 use take_in::list_refusal;
 use take_in::take_in;
@@ -40,58 +42,52 @@ fn walk_answer(walked: Walked) -> LineAnswer
 // queue walk.
 pub fn check_listed(
     b: &[u8],
-    n: usize,
-    l: usize,
-    p: usize,
+    at: Layout,
     area: &mut [u16],
     count: usize,
 ) -> LineAnswer
-    requires { ⌜ Usable (now b) (now area) n l p ⌝ }
-    requires { ⌜ Listed (now area) (scratchAt n l) count n ⌝ }
-    ensures { λ r. ⌜ Answered n l p (now (area .entry)) (now (area .exit)) (lineSaid r) []
-        (lineCheck (now (b .entry)) (now (area .entry)) (listIn (now (area .entry)) n l count)) ⌝ }
+    requires { ⌜ Usable (now b) (now area) at ⌝ }
+    requires { ⌜ Listed (now area) (scratchAt (at .sizes .nodes) (at .sizes .links)) count (at .sizes .nodes) ⌝ }
+    ensures { λ r. ⌜ Answered at (now (area .entry)) (now (area .exit)) (lineSaid r) []
+        (lineCheck (now (b .entry)) (now (area .entry)) (listIn (now (area .entry)) (at .sizes .nodes) (at .sizes .links) count)) ⌝ }
 {
     let mut room = record_room();
-    let found = get_intervals(b, n, l, p, area, count, &mut room);
+    let found = get_intervals(b, at.sizes.nodes, at.sizes.links, at.sizes.ports, area, count, &mut room);
     let Intervals::Records(made) = found else {
         return LineAnswer::No(0);
     };
-    let walked = walk(b, n, l, p, area, &room, made);
+    let walked = walk(b, at, area, &room, made);
     walk_answer(walked)
 }
 
 // The line check of a list: refusals 8, 9, 10, then the check of its nodes.
 pub fn check_list(
     b: &[u8],
-    n: usize,
-    l: usize,
-    p: usize,
+    at: Layout,
     area: &mut [u16],
     list: &[u16],
 ) -> LineAnswer
-    requires { ⌜ Usable (now b) (now area) n l p ⌝ }
-    ensures { λ r. ⌜ Answered n l p (now (area .entry)) (now (area .exit)) (lineSaid r)
+    requires { ⌜ Usable (now b) (now area) at ⌝ }
+    ensures { λ r. ⌜ Answered at (now (area .entry)) (now (area .exit)) (lineSaid r)
         (lineRules (now (b .entry)) (now (list .entry))) (lineCheck (now (b .entry)) (now (area .entry)) (now (list .entry))) ⌝ }
 {
-    let taken = take_in(list, n, area, 3 + 6 * n + 5 * l);
+    let taken = take_in(list, at.sizes.nodes, area, at.scratch);
     let Taken::Nodes(count) = taken else {
         return LineAnswer::Refused(list_refusal(taken));
     };
-    check_listed(b, n, l, p, area, count)
+    check_listed(b, at, area, count)
 }
 
 // The check by records: refusals 8, 12, 13, then the same walk.
 pub fn check_by_records(
     b: &[u8],
-    n: usize,
-    l: usize,
-    p: usize,
+    at: Layout,
     area: &mut [u16],
     records: &[u16],
     count: usize,
 ) -> LineAnswer
-    requires { ⌜ Usable (now b) (now area) n l p ⌝ }
-    ensures { λ r. ⌜ Answered n l p (now (area .entry)) (now (area .exit)) (lineSaid r)
+    requires { ⌜ Usable (now b) (now area) at ⌝ }
+    ensures { λ r. ⌜ Answered at (now (area .entry)) (now (area .exit)) (lineSaid r)
         (rule8 count ∷ rule12 (now (b .entry)) (now (area .entry)) (now (records .entry)) count
         ∷ rule13 (now (b .entry)) (now (area .entry)) (recordsIn (now (records .entry)) count) ∷ [])
         (walkOf (now (b .entry)) (now (area .entry)) (recordsIn (now (records .entry)) count)) ⌝ }
@@ -99,10 +95,10 @@ pub fn check_by_records(
     if count == 0 {
         return LineAnswer::Refused(Refusal::Empty);
     }
-    let checked = check_records(b, n, l, p, area, records, count);
+    let checked = check_records(b, at.sizes.nodes, at.sizes.links, at.sizes.ports, area, records, count);
     let Checked::Good = checked else {
         return LineAnswer::Refused(record_refusal(checked));
     };
-    let walked = walk(b, n, l, p, area, records, count);
+    let walked = walk(b, at, area, records, count);
     walk_answer(walked)
 }

@@ -7,8 +7,9 @@ ghost use Rattle.paper.specs.Area.{K};
 ghost use Rattle.paper.specs.Records.{nodesIn, recordsIn};
 ghost use Rattle.paper.specs.Refusals.{rule11, rule12, rule13};
 ghost use Rattle.tables.specs.Recorded.{Recorded, Slotted};
-ghost use Rattle.tables.specs.UsableBy.{Usable, scratchAt};
-ghost use Rattle.tables.specs.AnsweredBy.{AnsweredInto};
+ghost use Rattle.tables.specs.Usable.{Usable};
+ghost use Rattle.tables.specs.UsableBy.{scratchAt};
+ghost use Rattle.tables.specs.Answered.{AnsweredInto};
 ghost use Rattle.answers.specs.Said.{nodesSaid};
 use super::room::copy_out;
 use super::room::node_room;
@@ -18,29 +19,28 @@ use records::Checked;
 use records::check_records;
 use records::record_refusal;
 use refusals::Refusal;
+use tables::Layout;
 
 // The nodes in records that may be used: 11 if they do not fit the buffer.
 fn write_nodes(
     b: &[u8],
-    n: usize,
-    l: usize,
-    p: usize,
+    at: Layout,
     area: &[u16],
     records: &[u16],
     count: usize,
     buffer: &mut [u16],
 ) -> NodesAnswer
-    requires { ⌜ Usable (now b) (now area) n l p ⌝ }
+    requires { ⌜ Usable (now b) (now area) at ⌝ }
     requires { ⌜ Recorded (now b) (now area) (now records) count ⌝ }
-    requires { ⌜ Slotted (now area) (now records) count (scratchAt n l) (scratchAt n l + (n + l)) (K (now b) (now area)) ⌝ }
-    ensures { λ r. ⌜ AnsweredInto n l p (now (area .entry)) (now (area .entry)) (nodesSaid r)
+    requires { ⌜ Slotted (now area) (now records) count (scratchAt (at .sizes .nodes) (at .sizes .links)) (scratchAt (at .sizes .nodes) (at .sizes .links) + (at .sizes .nodes + at .sizes .links)) (K (now b) (now area)) ⌝ }
+    ensures { λ r. ⌜ AnsweredInto at (now (area .entry)) (now (area .entry)) (nodesSaid r)
         (rule11 (length (now (buffer .entry))) (length (nodesIn (now (b .entry)) (now (area .entry)) (recordsIn (now (records .entry)) count))) ∷ [])
         (length (nodesIn (now (b .entry)) (now (area .entry)) (recordsIn (now (records .entry)) count)))
         (now (buffer .entry)) (now (buffer .exit))
         (nodesIn (now (b .entry)) (now (area .entry)) (recordsIn (now (records .entry)) count)) ⌝ }
 {
     let mut room = node_room();
-    let found = nodes_in(b, n, l, p, area, records, count, &mut room);
+    let found = nodes_in(b, at.sizes.nodes, at.sizes.links, at.sizes.ports, area, records, count, &mut room);
     if buffer.len() < found {
         return NodesAnswer::Refused(Refusal::TooLong(found));
     }
@@ -51,16 +51,14 @@ fn write_nodes(
 // The nodes in records, by position, then number: refusals 12, 13, 11.
 pub fn nodes_of_records(
     b: &[u8],
-    n: usize,
-    l: usize,
-    p: usize,
+    at: Layout,
     area: &mut [u16],
     records: &[u16],
     count: usize,
     buffer: &mut [u16],
 ) -> NodesAnswer
-    requires { ⌜ Usable (now b) (now area) n l p ⌝ }
-    ensures { λ r. ⌜ AnsweredInto n l p (now (area .entry)) (now (area .exit)) (nodesSaid r)
+    requires { ⌜ Usable (now b) (now area) at ⌝ }
+    ensures { λ r. ⌜ AnsweredInto at (now (area .entry)) (now (area .exit)) (nodesSaid r)
         (rule12 (now (b .entry)) (now (area .entry)) (now (records .entry)) count
         ∷ rule13 (now (b .entry)) (now (area .entry)) (recordsIn (now (records .entry)) count)
         ∷ rule11 (length (now (buffer .entry))) (length (nodesIn (now (b .entry)) (now (area .entry)) (recordsIn (now (records .entry)) count))) ∷ [])
@@ -68,9 +66,9 @@ pub fn nodes_of_records(
         (now (buffer .entry)) (now (buffer .exit))
         (nodesIn (now (b .entry)) (now (area .entry)) (recordsIn (now (records .entry)) count)) ⌝ }
 {
-    let checked = check_records(b, n, l, p, area, records, count);
+    let checked = check_records(b, at.sizes.nodes, at.sizes.links, at.sizes.ports, area, records, count);
     let Checked::Good = checked else {
         return NodesAnswer::Refused(record_refusal(checked));
     };
-    write_nodes(b, n, l, p, area, records, count, buffer)
+    write_nodes(b, at, area, records, count, buffer)
 }

@@ -1,5 +1,5 @@
 -- A node's links among the links by port: where they start, how many there are, and that the lists of lines fit their section.
--- Rests on links_by_port.NodeLinks and on the sizes of the tables (lines_theory).
+-- Rests on neighbours.NodeLinks and on the sizes of the tables (lines_theory).
 use Prim.Native.Nat.{ℕ, suc, _+_, _-_, _*_, _≤_, _<_}
 use native.Mathlib.Omega.{arith}
 use mathlib.Core.Path.{_≡_, sym, ap, _∙_}
@@ -14,8 +14,8 @@ use Rattle.order_theory.proofs.Refusals.{sound}
 use Rattle.counting_sort.specs.Sorted.{below, startsBy, sortedBy}
 use Rattle.counting_sort.proofs.Counting.{below-le, below-length, below-all}
 use Rattle.counting_sort.proofs.Parts.{before-key}
-use Rattle.links_by_port.proofs.NodeLinks.{out-part, in-part}
-use Rattle.links_by_port.proofs.Writing.{source-below, target-below}
+use Rattle.neighbours.proofs.NodeLinks.{out-part, in-part}
+use Rattle.neighbours.proofs.Writing.{source-below, target-below}
 use Rattle.lines_theory.proofs.Prepared.{tables-sized}
 use Rattle.stepmap.specs.Formed.{ReadWell}
 use Rattle.line_tables.specs.Layout.{outKeys, inKeys, entries}

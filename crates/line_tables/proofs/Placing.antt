@@ -29,7 +29,7 @@ use Rattle.lines_theory.proofs.PlacingEnds.{lines-enough}
 use Rattle.lines_theory.proofs.Placing.{place-grows}
 use Rattle.lines_theory.proofs.Room.{count-room}
 use Rattle.lines_theory.proofs.Taken.{old-length, fresh-length}
-use Rattle.links_by_port.proofs.Writing.{source-below}
+use Rattle.neighbours.proofs.Writing.{source-below}
 use Rattle.counting_sort.specs.Sorted.{below}
 use Rattle.line_tables.specs.Layout.{positionsAt, listsAt, portsAt, topsAt, outSortedAt, stackAt, outKeys, inKeys, startOf, entries}
 use Rattle.line_tables.specs.Spread.{Spread, Kept, in-front, in-starts, in-tables, in-links, behind, Over, position, top, stack}

@@ -20,8 +20,8 @@ use Rattle.order_theory.proofs.Ports.{ports-below}
 use Rattle.order_theory.proofs.Refusals.{sound}
 use Rattle.counting_sort.specs.Sorted.{below, startsBy, sortedBy}
 use Rattle.counting_sort.proofs.Counting.{below-length}
-use Rattle.links_by_port.specs.Tabled.{Tabled, Roomy, byPort}
-use Rattle.links_by_port.proofs.Writing.{target-below}
+use Rattle.neighbours.specs.Tabled.{Tabled, Roomy, byPort}
+use Rattle.neighbours.proofs.Writing.{target-below}
 use Rattle.lines_theory.proofs.Starts.{starts-first, starts-next, starts-last, starts-later}
 use Rattle.lines_theory.proofs.Prepared.{tables-sized}
 use Rattle.stepmap.specs.Formed.{ReadWell}

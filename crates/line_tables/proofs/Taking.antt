@@ -20,7 +20,7 @@ use Rattle.lists.proofs.Members.{keep-there}
 use Rattle.lines_theory.proofs.Taking.{left-there}
 use Rattle.lines_theory.proofs.Taken.{port-stands, taken-so-far}
 use Rattle.lines_theory.proofs.Weighed.{owner-is}
-use Rattle.links_by_port.proofs.Writing.{has-link, source-below}
+use Rattle.neighbours.proofs.Writing.{has-link, source-below}
 use Rattle.counting_sort.specs.Sorted.{below}
 use Rattle.line_tables.specs.Layout.{positionsAt, listsAt, portsAt, topsAt, inSortedAt, stackAt, inKeys, startOf}
 use Rattle.line_tables.specs.Spread.{Spread, Over, Changed, top}

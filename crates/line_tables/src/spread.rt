@@ -9,8 +9,8 @@ ghost use Rattle.line_tables.specs.Widths.{Starting, Spaced, Widths, lin
 ghost use Rattle.line_tables.specs.Laying.{Laying};
 ghost use Rattle.line_tables.specs.Spreading.{Spreads};
 use super::frontier::new_lines;
-use links_by_port::keys::source_keys;
-use links_by_port::links_by_input;
+use neighbours::by_port::links_by_input;
+use neighbours::keys::source_keys;
 use toposort::turns::links_start;
 use words::section::word_at;
 

@@ -2,7 +2,7 @@
 -- Rests on Sorting.
 use Prim.Native.Nat.{ℕ, _+_, _≤_, _<_}
 use native.Mathlib.Omega.{arith}
-use mathlib.Core.Path.{_≡_, refl, sym, ap, _∙_, subst}
+use mathlib.Core.Path.{_≡_, refl, sym, ap, ap₂, _∙_, subst}
 use mathlib.Core.Logic.{inl, inr}
 use mathlib.Core.List.{List, map}
 use lib.ListN.{length}
@@ -11,139 +11,147 @@ use Rattle.lists.specs.Lists.{upto}
 use Rattle.lists.proofs.Sections.{Disjoint, part, part-sets-in}
 use Rattle.lists.proofs.Upto.{length-table}
 use Rattle.paper.specs.Map.{L, P, firstPort, sourcePort, targetPort}
-use Rattle.order_theory.specs.Sound.{Sound}
 use Rattle.order_theory.proofs.Refusals.{sound}
 use Rattle.stepmap.specs.Formed.{ReadWell}
-use Rattle.stepmap.proofs.Known.{well-at}
+use Rattle.stepmap.specs.declared.read.Sizes.{Sizes}
 use Rattle.counting_sort.specs.Sorted.{startsBy, sortedBy}
-use Rattle.links_by_port.specs.Tabled.{Roomy, byPort}
-use Rattle.links_by_port.proofs.Writing.{source-below, target-below}
 use Rattle.tables.specs.Within.{Within}
 use Rattle.tables.proofs.Within.{within-none, within-both, within-sets}
-use Rattle.neighbours.specs.Linked.{Free, Linked, Laying, linkedSize}
+use Rattle.neighbours.specs.declared.Listing.{Listing}
+use Rattle.neighbours.specs.Tabled.{Roomy, byPort}
+use Rattle.neighbours.specs.Linked.{Free, Linked, Outgoing, Incoming, OutgoingLaid, IncomingLaid, outgoingSize, incomingSize, withOutgoing}
+use Rattle.neighbours.proofs.Writing.{source-below, target-below}
 use Rattle.neighbours.proofs.Sorting.{starts-stand, sorted-stand, others-stand, only-here}
 
-module _ {b a : List ℕ} {n l p at : ℕ} (free : Free b a n l p at) where
-  abbrev keys : ℕ
-  keys = at + (n + 1)
+-- the links by a port of each, sorted into a room whose first ports stand
+module _ {b a : List ℕ} {s : Sizes} {at : Listing}
+    (roomy : Roomy b a (s .nodes) (s .links) (s .ports) (at .firsts) (at .keys) (at .starts) (at .sorted))
+    (port : ℕ → ℕ) (low : (k : ℕ) → k < s .links → port k < s .ports) (last : at .end ≡ at .sorted + s .links)
+    {m : List ℕ} (e : m ≡ byPort a (at .keys) (at .starts) (at .sorted) (map port (upto (s .links))) (s .ports)) where
+  well : ReadWell b (s .nodes) (s .links) (s .ports)
+  well = roomy .tabled .read
 
-  abbrev starts : ℕ
-  starts = keys + l
+  long : length m ≡ length a
+  long = only-here roomy port low e 0 (at .end) (omega arith) (omega (arith, last)) .long
 
-  abbrev sorted : ℕ
-  sorted = starts + (p + 1)
+  listed : Linked b m s port at
+  listed =
+      record {
+        read = well;
+        links = roomy .tabled .links;
+        after-firsts = roomy .tabled .apart;
+        after-keys = roomy .after-keys;
+        after-starts = roomy .after-starts;
+        after-sorted = omega (arith, last);
+        room = omega (arith, last, long, roomy .room);
+        firsts-stand =
+            others-stand roomy port low e (at .firsts) (s .nodes + 1) (inl (roomy .tabled .apart))
+            (inl (omega (arith, roomy .tabled .apart, roomy .after-keys)))
+            (omega (arith, roomy .tabled .apart, roomy .tabled .room))
+            ∙ roomy .tabled .table;
+        starts-stand = starts-stand roomy port low e ∙ ap₂ (λ (x y : ℕ). startsBy (map port (upto x)) y) (sym (well .links)) (sym (well .ports));
+        sorted-stand = sorted-stand roomy port low e ∙ ap₂ (λ (x y : ℕ). sortedBy (map port (upto x)) y) (sym (well .links)) (sym (well .ports));
+      }
 
-  abbrev backs : ℕ
-  backs = sorted + l
-
-  abbrev sources : ℕ
-  sources = backs + (p + 1)
-
-  pub firsts-fit : at + (n + 1) ≤ length a
+module _ {b a : List ℕ} {s : Sizes} {from : ℕ} (free : Free b a s from (outgoingSize s)) where
+  pub firsts-fit : from + (s .nodes + 1) ≤ length a
   firsts-fit = omega (arith, free .room)
 
-  is-sound : Sound b
-  is-sound = sound b (free .links)
+  source-low : (k : ℕ) → k < s .links → sourcePort b k < s .ports
+  source-low k h = source-below (free .read) (sound b (free .links)) h
 
-  source-low : (k : ℕ) → k < l → sourcePort b k < p
-  source-low k h = source-below (free .read) is-sound h
-
-  target-low : (k : ℕ) → k < l → targetPort b k < p
-  target-low k h = target-below (free .read) is-sound h
-
-  -- the numbers of links and ports that were read are those of the definitions
-  starts-read : (f : ℕ → ℕ) (m : List ℕ) (place : ℕ) → part m place (p + 1) ≡ startsBy (map f (upto l)) p
-      → part m place (P b + 1) ≡ startsBy (map f (upto (L b))) (P b)
-  starts-read f m place e = rw (free .read .ports, free .read .links) e
-
-  sorted-read : (f : ℕ → ℕ) (m : List ℕ) (place : ℕ) → part m place l ≡ sortedBy (map f (upto l)) p
-      → part m place (L b) ≡ sortedBy (map f (upto (L b))) (P b)
-  sorted-read f m place e = rw (free .read .ports, free .read .links) e
-
-  module _ {a₁ : List ℕ} (e₁ : a₁ ≡ sets a at (map (firstPort b) (upto (n + 1)))) where
+  module _ {keys starts sorted : ℕ} (keys-at : keys ≡ from + (s .nodes + 1)) (starts-at : starts ≡ keys + s .links)
+      (sorted-at : sorted ≡ starts + (s .ports + 1)) {a₁ : List ℕ} (e₁ : a₁ ≡ sets a from (map (firstPort b) (upto (s .nodes + 1)))) where
     long₁ : length a₁ ≡ length a
-    long₁ = ap length e₁ ∙ length-sets a at (map (firstPort b) (upto (n + 1)))
+    long₁ = ap length e₁ ∙ length-sets a from (map (firstPort b) (upto (s .nodes + 1)))
 
-    many : length (map (firstPort b) (upto (n + 1))) ≡ n + 1
-    many = length-table (firstPort b) (n + 1)
+    many : length (map (firstPort b) (upto (s .nodes + 1))) ≡ s .nodes + 1
+    many = length-table (firstPort b) (s .nodes + 1)
 
-    kept₁ : Within at (linkedSize n l p) a a₁
-    kept₁ =
-        subst (Within at (linkedSize n l p) a) (sym e₁)
-        (within-sets within-none at (map (firstPort b) (upto (n + 1))) (omega arith) (omega (arith, many)))
-
-    firsts₁ : part a₁ at (n + 1) ≡ map (firstPort b) (upto (n + 1))
+    firsts₁ : part a₁ from (s .nodes + 1) ≡ map (firstPort b) (upto (s .nodes + 1))
     firsts₁ =
-        ap (λ (m : List ℕ). part m at (n + 1)) e₁
-        ∙ ap (part (sets a at (map (firstPort b) (upto (n + 1)))) at) (sym many)
-        ∙ part-sets-in a at (map (firstPort b) (upto (n + 1))) 0 (omega (arith, many, free .room))
+        ap (λ (m : List ℕ). part m from (s .nodes + 1)) e₁
+        ∙ ap (part (sets a from (map (firstPort b) (upto (s .nodes + 1)))) from) (sym many)
+        ∙ part-sets-in a from (map (firstPort b) (upto (s .nodes + 1))) 0 (omega (arith, many, free .room))
 
-    pub roomy-out : Roomy b a₁ n l p at keys starts sorted
+    pub roomy-out : Roomy b a₁ (s .nodes) (s .links) (s .ports) from keys starts sorted
     roomy-out =
         record {
           tabled =
-              record { read = free .read; links = free .links; table = firsts₁; apart = omega arith; room = omega (arith, long₁, free .room) };
-          after-keys = omega arith;
-          after-starts = omega arith;
-          room = omega (arith, long₁, free .room);
+              record {
+                read = free .read;
+                links = free .links;
+                table = firsts₁;
+                apart = omega (arith, keys-at);
+                room = omega (arith, long₁, free .room, keys-at);
+              };
+          after-keys = omega (arith, starts-at);
+          after-starts = omega (arith, sorted-at);
+          room = omega (arith, long₁, free .room, keys-at, starts-at, sorted-at);
         }
 
-    module _ {a₂ : List ℕ} (e₂ : a₂ ≡ byPort a₁ keys starts sorted (map (sourcePort b) (upto l)) p) where
-      kept₂ : Within at (linkedSize n l p) a₁ a₂
-      kept₂ = only-here roomy-out (sourcePort b) source-low e₂ at (linkedSize n l p) (omega arith) (omega arith)
-
-      long₂ : length a₂ ≡ length a
-      long₂ = kept₂ .long ∙ long₁
-
-      firsts₂ : part a₂ at (n + 1) ≡ map (firstPort b) (upto (n + 1))
-      firsts₂ =
-          others-stand roomy-out (sourcePort b) source-low e₂ at (n + 1) (inl (omega arith)) (inl (omega arith))
-          (omega (arith, long₁, free .room))
-          ∙ firsts₁
-
-      pub roomy-in : Roomy b a₂ n l p at keys backs sources
-      roomy-in =
+    module _ {end : ℕ} (end-at : end ≡ sorted + s .links) {a₂ : List ℕ} (e₂ : a₂ ≡ byPort a₁ keys starts sorted (map (sourcePort b) (upto (s .links))) (s .ports)) where
+      pub outgoing-laid : OutgoingLaid b a s from (record { firsts = from; keys = keys; starts = starts; sorted = sorted; end = end }) a₂
+      unfolding withOutgoing
+      outgoing-laid =
           record {
-            tabled =
-                record { read = free .read; links = free .links; table = firsts₂; apart = omega arith; room = omega (arith, long₂, free .room) };
-            after-keys = omega arith;
-            after-starts = omega arith;
-            room = omega (arith, long₂, free .room);
+            linked = listed roomy-out (sourcePort b) source-low end-at e₂;
+            first = refl;
+            last = omega (arith, end-at, sorted-at, starts-at, keys-at);
+            kept =
+                within-both
+                (subst (Within from (outgoingSize s) a) (sym e₁)
+                (within-sets within-none from (map (firstPort b) (upto (s .nodes + 1))) (omega arith) (omega (arith, many))))
+                (only-here roomy-out (sourcePort b) source-low e₂ from (outgoingSize s) (omega (arith, keys-at))
+                (omega (arith, keys-at, starts-at, sorted-at)));
+            whole = e₂ ∙ ap (λ (m : List ℕ). byPort m keys starts sorted (map (sourcePort b) (upto (s .links))) (s .ports)) e₁;
           }
 
-      module _ {a₃ : List ℕ} (e₃ : a₃ ≡ byPort a₂ keys backs sources (map (targetPort b) (upto l)) p) where
-        kept₃ : Within at (linkedSize n l p) a₂ a₃
-        kept₃ = only-here roomy-in (targetPort b) target-low e₃ at (linkedSize n l p) (omega arith) (omega arith)
+module _ {b a : List ℕ} {s : Sizes} {out : Listing} (outgoing : Outgoing b a s out) (room : out .end + incomingSize s ≤ length a) where
+  target-low : (k : ℕ) → k < s .links → targetPort b k < s .ports
+  target-low k h = target-below (outgoing .read) (sound b (outgoing .links)) h
 
-        stands : (place many : ℕ) → Disjoint place many keys l → place + many ≤ backs → part a₃ place many ≡ part a₂ place many
-        stands place many off high =
-            others-stand roomy-in (targetPort b) target-low e₃ place many off (inl high) (omega (arith, long₂, free .room))
+  module _ {sorted : ℕ} (sorted-at : sorted ≡ out .end + (s .ports + 1)) where
+    pub roomy-in : Roomy b a (s .nodes) (s .links) (s .ports) (out .firsts) (out .keys) (out .end) sorted
+    roomy-in =
+        record {
+          tabled =
+              record {
+                read = outgoing .read;
+                links = outgoing .links;
+                table = outgoing .firsts-stand;
+                apart = outgoing .after-firsts;
+                room = omega (arith, outgoing);
+              };
+          after-keys = omega (arith, outgoing);
+          after-starts = omega (arith, sorted-at);
+          room = omega (arith, room, sorted-at);
+        }
 
-        linked : Linked b a₃ n (record { firsts = at; starts = starts; sorted = sorted; backs = backs; sources = sources })
-        linked =
-            record {
-              read = subst (λ (x : ℕ). ReadWell b n x (P b)) (sym (free .read .links)) (well-at (free .read));
-              links = free .links;
-              after-firsts = omega arith;
-              after-starts = omega (arith, free .read .ports);
-              after-sorted = omega (arith, free .read .links);
-              after-backs = omega (arith, free .read .ports);
-              room = omega (arith, free .read .links, kept₃ .long, long₂, free .room);
-              firsts-stand = stands at (n + 1) (inl (omega arith)) (omega arith) ∙ firsts₂;
-              starts-stand =
-                  starts-read (sourcePort b) a₃ starts
-                  (stands starts (p + 1) (inr (omega arith)) (omega arith) ∙ starts-stand roomy-out (sourcePort b) source-low e₂);
-              sorted-stand =
-                  sorted-read (sourcePort b) a₃ sorted
-                  (stands sorted l (inr (omega arith)) (omega arith) ∙ sorted-stand roomy-out (sourcePort b) source-low e₂);
-              backs-stand = starts-read (targetPort b) a₃ backs (starts-stand roomy-in (targetPort b) target-low e₃);
-              sources-stand = sorted-read (targetPort b) a₃ sources (sorted-stand roomy-in (targetPort b) target-low e₃);
-            }
+    module _ {end : ℕ} (end-at : end ≡ sorted + s .links) {m : List ℕ} (e : m ≡ byPort a (out .keys) (out .end) sorted (map (targetPort b) (upto (s .links))) (s .ports)) where
+      kept : (from size : ℕ) → from ≤ out .keys → end ≤ from + size → Within from size a m
+      kept from size low high = only-here roomy-in (targetPort b) target-low e from size low (omega (arith, end-at))
 
-        pub laying : Laying b a n l p at (record { firsts = at; starts = starts; sorted = sorted; backs = backs; sources = sources }) a₃
-        laying =
-            record {
-              linked = linked;
-              first = refl;
-              kept = within-both (within-both kept₁ kept₂) kept₃;
-            }
+      stands : (place many : ℕ) → Disjoint place many (out .keys) (s .links) → place + many ≤ out .end → part m place many ≡ part a place many
+      stands place many off high = others-stand roomy-in (targetPort b) target-low e place many off (inl high) (omega (arith, outgoing .room))
+
+      pub incoming-laid : IncomingLaid b a s out (record { firsts = out .firsts; keys = out .keys; starts = out .end; sorted = sorted; end = end }) m
+      incoming-laid =
+          record {
+            outgoing =
+                record {
+                  read = outgoing .read;
+                  links = outgoing .links;
+                  after-firsts = outgoing .after-firsts;
+                  after-keys = outgoing .after-keys;
+                  after-starts = outgoing .after-starts;
+                  after-sorted = outgoing .after-sorted;
+                  room = omega (arith, outgoing .room, kept 0 end (omega arith) (omega arith) .long);
+                  firsts-stand = stands (out .firsts) (s .nodes + 1) (inl (outgoing .after-firsts)) (omega (arith, outgoing)) ∙ outgoing .firsts-stand;
+                  starts-stand = stands (out .starts) (s .ports + 1) (inr (outgoing .after-keys)) (omega (arith, outgoing)) ∙ outgoing .starts-stand;
+                  sorted-stand = stands (out .sorted) (s .links) (inr (omega (arith, outgoing))) (omega (arith, outgoing)) ∙ outgoing .sorted-stand;
+                };
+            incoming = listed roomy-in (targetPort b) target-low end-at e;
+            last = omega (arith, end-at, sorted-at);
+            kept = kept;
+          }

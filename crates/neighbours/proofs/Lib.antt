@@ -1,6 +1,13 @@
+pub mod Writing
+pub mod Sorted
+pub mod NodeLinks
 pub mod Rows
 pub mod Targets
 pub mod Reading
 pub mod Keeping
 pub mod Sorting
 pub mod Laying
+pub mod Passing
+pub mod ReadingBy
+pub mod KeepingBy
+pub mod LayingBy

@@ -13,7 +13,7 @@ use Rattle.lists.proofs.Upto.{length-table, getD-table}
 use Rattle.counting_sort.specs.Sorted.{below, startsBy, sortedBy}
 use Rattle.counting_sort.proofs.Counting.{below-all}
 use Rattle.counting_sort.proofs.Parts.{before-key}
-use Rattle.links_by_port.specs.Tabled.{Roomy, byPort}
+use Rattle.neighbours.specs.Tabled.{Roomy, byPort}
 use Rattle.tables.specs.Within.{Within}
 use Rattle.tables.proofs.Within.{within-none, within-sets}
 

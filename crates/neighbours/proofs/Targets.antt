@@ -1,12 +1,12 @@
 -- What is read from the links of a sound map: the targets of a node's links are its output neighbours, the sources those of its incoming links.
--- Rests on Rows and links_by_port.NodeLinks.
+-- Rests on Rows and neighbours.NodeLinks.
 use Prim.Native.Nat.{ℕ, suc, _-_, _≤_, _<_}
 use mathlib.Core.Path.{_≡_, sym, ap, _∙_}
 use mathlib.Core.List.{List, map, map-map}
 use Rattle.lists.specs.Lists.{from}
 use Rattle.paper.specs.Map.{N, L, linkFrom, linkTo, sourcePort, targetPort, inLinks, outNeighbours}
 use Rattle.order_theory.specs.Sound.{Sound}
-use Rattle.links_by_port.proofs.NodeLinks.{out-part, in-part}
+use Rattle.neighbours.proofs.NodeLinks.{out-part, in-part}
 use Rattle.neighbours.specs.Linked.{outStart, outTarget, inStart, inSource}
 use Rattle.neighbours.proofs.Rows.{linkBy, start-fits, start-rises, link-known, row}
 

@@ -1,1 +1,3 @@
+pub mod Tabled
 pub mod Linked
+pub mod LinkedBy

@@ -1,33 +1,38 @@
-// The links of a map laid once: its nodes' first ports, the links by output port and the links by input port, one after the other in the
-// lent area; and from them the steps that a node feeds and those that feed it.
+// The links of a map laid once: its nodes' first ports and the links by output port, and behind them the links by input port, in the lent
+// area; and from them the steps that a node feeds and those that feed it.
+pub mod both;
+pub mod by_port;
+pub mod keys;
+
 ghost use mathlib.Core.Path.{_≡_};
 ghost use mathlib.Core.List.{map};
 ghost use Prim.Native.Nat.{_+_, _≤_, _<_};
 ghost use lib.ListN.{length};
 ghost use lib.Seq.{sets};
 ghost use Rattle.lists.specs.Lists.{upto};
-ghost use Rattle.paper.specs.Map.{L, firstPort};
+ghost use Rattle.paper.specs.Map.{firstPort};
 ghost use Rattle.stepmap.specs.Formed.{Numbered};
-ghost use Rattle.neighbours.specs.Linked.{Free, Laying, Linked, inSource, inStart, outStart, outTarget};
-use links_by_port::links_by_input;
-use links_by_port::links_by_output;
+ghost use Rattle.neighbours.specs.Linked.{Free, Incoming, IncomingLaid, Outgoing, OutgoingLaid, inSource, inStart, incomingSize, outStart, outTarget, outgoingSize};
+use by_port::links_by_input;
+use by_port::links_by_output;
 use stepmap::access::link_from;
 use stepmap::access::link_to;
 use stepmap::ports::first_ports;
+use stepmap::read::Sizes;
 use words::section::word_at;
 
-// Where they stand: the nodes' first ports, the starts of the output ports and the links by them, the starts of the input ports and the links by
-// those.
-pub struct Places {
+// Where the links by port stand, of one direction: the nodes' first ports, the keys of the sort, where each port's links start, and the
+// links. The keys are free once the links stand.
+pub struct Listing {
     pub firsts: usize,
+    pub keys: usize,
     pub starts: usize,
     pub sorted: usize,
-    pub backs: usize,
-    pub sources: usize,
+    pub end: usize,
 }
 
 // Writes the first ports of the n nodes, and their number, to the section at `firsts`.
-fn first_ports_at(b: &[u8], n: usize, area: &mut [u16], firsts: usize)
+pub fn first_ports_at(b: &[u8], n: usize, area: &mut [u16], firsts: usize)
     requires { ⌜ Numbered (now b) n ⌝ }
     requires { ⌜ firsts + (n + 1) ≤ length (now area) ⌝ }
     ensures { λ _. ⌜ now (area .exit) ≡ sets (now (area .entry)) firsts (map (firstPort (now (b .entry))) (upto (n + 1))) ⌝ }
@@ -36,32 +41,57 @@ fn first_ports_at(b: &[u8], n: usize, area: &mut [u16], firsts: usize)
     first_ports(b, n, &mut area[firsts..end]);
 }
 
-// Lays them from `at` on. The keys of both sorts take the same words.
-pub fn lay_links(b: &[u8], n: usize, l: usize, p: usize, area: &mut [u16], at: usize) -> Places
-    requires { ⌜ Free (now b) (now area) n l p at ⌝ }
-    ensures { λ r. ⌜ Laying (now (b .entry)) (now (area .entry)) n l p at r (now (area .exit)) ⌝ }
+// Lays the first ports and the links by output port from `from` on.
+pub fn lay_outgoing(b: &[u8], sizes: Sizes, area: &mut [u16], from: usize) -> Listing
+    requires { ⌜ Free (now b) (now area) sizes from (outgoingSize sizes) ⌝ }
+    ensures { λ r. ⌜ OutgoingLaid (now (b .entry)) (now (area .entry)) sizes from r (now (area .exit)) ⌝ }
 {
-    let keys = at + (n + 1);
+    let n = sizes.nodes;
+    let l = sizes.links;
+    let p = sizes.ports;
+    let keys = from + (n + 1);
     let starts = keys + l;
     let sorted = starts + (p + 1);
-    let backs = sorted + l;
-    let sources = backs + (p + 1);
-    first_ports_at(b, n, area, at);
-    links_by_output(b, n, l, p, area, at, keys, starts, sorted);
-    links_by_input(b, n, l, p, area, at, keys, backs, sources);
-    Places {
-        firsts: at,
+    let end = sorted + l;
+    first_ports_at(b, n, area, from);
+    links_by_output(b, n, l, p, area, from, keys, starts, sorted);
+    Listing {
+        firsts: from,
+        keys,
         starts,
         sorted,
-        backs,
-        sources,
+        end,
+    }
+}
+
+// Lays the links by input port behind those by output port, with the same first ports, and with keys in the same place.
+pub fn lay_incoming(b: &[u8], sizes: Sizes, area: &mut [u16], out: Listing) -> Listing
+    requires { ⌜ Outgoing (now b) (now area) sizes out ⌝ }
+    requires { ⌜ out .end + incomingSize sizes ≤ length (now area) ⌝ }
+    ensures { λ r. ⌜ IncomingLaid (now (b .entry)) (now (area .entry)) sizes out r (now (area .exit)) ⌝ }
+{
+    let n = sizes.nodes;
+    let l = sizes.links;
+    let p = sizes.ports;
+    let firsts = out.firsts;
+    let keys = out.keys;
+    let starts = out.end;
+    let sorted = starts + (p + 1);
+    let end = sorted + l;
+    links_by_input(b, n, l, p, area, firsts, keys, starts, sorted);
+    Listing {
+        firsts,
+        keys,
+        starts,
+        sorted,
+        end,
     }
 }
 
 // Where the links out of node v start among those by output port; those of the node before it end there.
-pub fn targets_start(b: &[u8], n: usize, area: &[u16], at: Places, v: usize) -> usize
-    requires { ⌜ Linked (now b) (now area) n at ⌝ }
-    requires { ⌜ v ≤ n ⌝ }
+pub fn targets_start(b: &[u8], sizes: Sizes, area: &[u16], at: Listing, v: usize) -> usize
+    requires { ⌜ Outgoing (now b) (now area) sizes at ⌝ }
+    requires { ⌜ v ≤ sizes .nodes ⌝ }
     ensures { λ r. ⌜ r ≡ outStart (now (b .entry)) v ⌝ }
 {
     let first = word_at(area, at.firsts, v);
@@ -69,31 +99,31 @@ pub fn targets_start(b: &[u8], n: usize, area: &[u16], at: Places, v: usize) -> 
 }
 
 // The node that the i-th of those links leads to.
-pub fn target_at(b: &[u8], n: usize, area: &[u16], at: Places, i: usize) -> usize
-    requires { ⌜ Linked (now b) (now area) n at ⌝ }
-    requires { ⌜ i < L (now b) ⌝ }
+pub fn target_at(b: &[u8], sizes: Sizes, area: &[u16], at: Listing, i: usize) -> usize
+    requires { ⌜ Outgoing (now b) (now area) sizes at ⌝ }
+    requires { ⌜ i < sizes .links ⌝ }
     ensures { λ r. ⌜ r ≡ outTarget (now (b .entry)) i ⌝ }
 {
     let k = word_at(area, at.sorted, i);
-    link_to(b, n, k)
+    link_to(b, sizes.nodes, k)
 }
 
 // Where the links into node v start among those by input port.
-pub fn sources_start(b: &[u8], n: usize, area: &[u16], at: Places, v: usize) -> usize
-    requires { ⌜ Linked (now b) (now area) n at ⌝ }
-    requires { ⌜ v ≤ n ⌝ }
+pub fn sources_start(b: &[u8], sizes: Sizes, area: &[u16], at: Listing, v: usize) -> usize
+    requires { ⌜ Incoming (now b) (now area) sizes at ⌝ }
+    requires { ⌜ v ≤ sizes .nodes ⌝ }
     ensures { λ r. ⌜ r ≡ inStart (now (b .entry)) v ⌝ }
 {
     let first = word_at(area, at.firsts, v);
-    word_at(area, at.backs, first)
+    word_at(area, at.starts, first)
 }
 
 // The node that the i-th of those links comes from.
-pub fn source_at(b: &[u8], n: usize, area: &[u16], at: Places, i: usize) -> usize
-    requires { ⌜ Linked (now b) (now area) n at ⌝ }
-    requires { ⌜ i < L (now b) ⌝ }
+pub fn source_at(b: &[u8], sizes: Sizes, area: &[u16], at: Listing, i: usize) -> usize
+    requires { ⌜ Incoming (now b) (now area) sizes at ⌝ }
+    requires { ⌜ i < sizes .links ⌝ }
     ensures { λ r. ⌜ r ≡ inSource (now (b .entry)) i ⌝ }
 {
-    let k = word_at(area, at.sources, i);
-    link_from(b, n, k)
+    let k = word_at(area, at.sorted, i);
+    link_from(b, sizes.nodes, k)
 }

@@ -8,21 +8,26 @@ use Rattle.lists.specs.Lists.{keep}
 use Rattle.lists.specs.Found.{Found, front}
 use Rattle.lists.proofs.Sections.{part}
 use Rattle.lookup.specs.Line.{Line, positionsOn}
-use Rattle.tables.specs.UsableBy.{Spanned, positionsAt, lineStartsAt, nodesAt, entriesOf}
+use Rattle.tables.specs.declared.Layout.{Layout}
+use Rattle.tables.specs.Usable.{Spanned, entriesOf}
+
+-- the positions of all nodes
+abbrev pub positionsIn : List ℕ → Layout → List ℕ
+positionsIn a at = part a (at .positions) (at .sizes .nodes)
 
 -- the nodes of line x, and the positions along it
-abbrev pub nodesAlong : List ℕ → ℕ → ℕ → ℕ → List ℕ
-nodesAlong a n l x = entriesOf a (lineStartsAt n l) (nodesAt n l) x
+abbrev pub nodesAlong : List ℕ → Layout → ℕ → List ℕ
+nodesAlong a at x = entriesOf a (at .starts) (at .along) x
 
-unfoldable pub positionsAlong : List ℕ → ℕ → ℕ → ℕ → List ℕ
-positionsAlong a n l x = positionsOn (nodesAlong a n l x) (part a (positionsAt n) n)
+unfoldable pub positionsAlong : List ℕ → Layout → ℕ → List ℕ
+positionsAlong a at x = positionsOn (nodesAlong a at x) (positionsIn a at)
 
 -- the node after a position
-unfoldable pub nextAlong : List ℕ → ℕ → ℕ → ℕ → ℕ → Found
-nextAlong a n l x p = front (keep (λ v. ltb p (getD (part a (positionsAt n) n) v 0)) (nodesAlong a n l x))
+unfoldable pub nextAlong : List ℕ → Layout → ℕ → ℕ → Found
+nextAlong a at x p = front (keep (λ v. ltb p (getD (positionsIn a at) v 0)) (nodesAlong a at x))
 
 -- line x stands in the area, its nodes are known, and its positions rise
-pub record LineAt (a : List ℕ) (n l x : ℕ) : Type 0 where
-  pub span : Spanned a (lineStartsAt n l) (nodesAt n l) x
-  pub room : positionsAt n + n ≤ length a
-  pub line : Line (nodesAlong a n l x) (part a (positionsAt n) n)
+pub record LineAt (a : List ℕ) (at : Layout) (x : ℕ) : Type 0 where
+  pub span : Spanned a (at .starts) (at .along) x
+  pub room : at .positions + at .sizes .nodes ≤ length a
+  pub line : Line (nodesAlong a at x) (positionsIn a at)

@@ -9,27 +9,28 @@ use lookup::Index;
 use lookup::Next;
 use lookup::find_index;
 use lookup::next_after;
+use tables::Layout;
 use tables::entries;
 
-// The index at which a position stands on line x of n nodes' and l links' tables.
-pub fn index_on(area: &[u16], n: usize, l: usize, x: usize, pos: usize) -> Index
-    requires { ⌜ LineAt (now area) n l x ⌝ }
-    ensures { λ r. ⌜ indexSaid r ≡ lookup (positionsAlong (now (area .entry)) n l x) pos ⌝ }
+// The index at which a position stands on line x.
+pub fn index_on(area: &[u16], at: Layout, x: usize, pos: usize) -> Index
+    requires { ⌜ LineAt (now area) at x ⌝ }
+    ensures { λ r. ⌜ indexSaid r ≡ lookup (positionsAlong (now (area .entry)) at x) pos ⌝ }
 {
-    let nodes = entries(area, 2 + 4 * n + 2 * l, 3 + 5 * n + 3 * l, x);
-    let first = 1 + n;
-    let end = 1 + n + n;
+    let nodes = entries(area, at.starts, at.along, x);
+    let first = at.positions;
+    let end = first + at.sizes.nodes;
     find_index(nodes, &area[first..end], pos)
 }
 
 // The node that comes after the one at a position on line x.
-pub fn next_on(area: &[u16], n: usize, l: usize, x: usize, pos: usize) -> Next
-    requires { ⌜ LineAt (now area) n l x ⌝ }
-    requires { ⌜ member pos (positionsAlong (now area) n l x) ≡ true ⌝ }
-    ensures { λ r. ⌜ nextSaid r ≡ nextAlong (now (area .entry)) n l x pos ⌝ }
+pub fn next_on(area: &[u16], at: Layout, x: usize, pos: usize) -> Next
+    requires { ⌜ LineAt (now area) at x ⌝ }
+    requires { ⌜ member pos (positionsAlong (now area) at x) ≡ true ⌝ }
+    ensures { λ r. ⌜ nextSaid r ≡ nextAlong (now (area .entry)) at x pos ⌝ }
 {
-    let nodes = entries(area, 2 + 4 * n + 2 * l, 3 + 5 * n + 3 * l, x);
-    let first = 1 + n;
-    let end = 1 + n + n;
+    let nodes = entries(area, at.starts, at.along, x);
+    let first = at.positions;
+    let end = first + at.sizes.nodes;
     next_after(nodes, &area[first..end], pos)
 }

@@ -7,6 +7,7 @@ ghost use Rattle.opening.specs.Opened.{HasScratch, openedSaid, scratchZe
 use super::Opened;
 use refusals::Refusal;
 use refusals::never;
+use tables::Layout;
 use words::section::fill;
 
 // An opening's refusal; `Ready`, which the caller has taken apart, is none.
@@ -20,10 +21,10 @@ pub fn refusal(opened: Opened) -> Refusal
     x
 }
 
-// Sets the scratch of a map of n nodes, l links and p ports to 0.
-pub fn clear_scratch(area: &mut [u16], n: usize, l: usize, p: usize)
-    requires { ⌜ HasScratch (now area) n l p ⌝ }
-    ensures { λ _. ⌜ now (area .exit) ≡ scratchZeroed (now (area .entry)) n l p ⌝ }
+// Sets the scratch to 0.
+pub fn clear_scratch(area: &mut [u16], at: Layout)
+    requires { ⌜ HasScratch (now area) at ⌝ }
+    ensures { λ _. ⌜ now (area .exit) ≡ scratchZeroed (now (area .entry)) at ⌝ }
 {
-    fill(area, 3 + 6 * n + 5 * l, 4 * n + 4 * l + 2 * p + 4, 0);
+    fill(area, at.scratch, at.end - at.scratch, 0);
 }

@@ -18,7 +18,7 @@ use Rattle.paper.specs.Calls.{portRules}
 use Rattle.paper.specs.Ports.{conflict}
 use Rattle.paper.specs.Refusals.{Ruling, passed, refusal, Answer, answered, answer, decide, refuse, earliest, rule14, rule45}
 use Rattle.order_theory.proofs.Refusals.{sound}
-use Rattle.links_by_port.proofs.Writing.{source-below, target-below}
+use Rattle.neighbours.proofs.Writing.{source-below, target-below}
 use Rattle.stepmap.specs.Formed.{ReadWell}
 use Rattle.tables.specs.Within.{Within}
 use Rattle.tables.proofs.Within.{within-none, within-both, within-sets, within-wider}

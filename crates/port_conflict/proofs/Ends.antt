@@ -1,5 +1,5 @@
 -- One link: its two ports from what is read, how small they are, and what the marks at them say.
--- Rests on Written, links_by_port's Writing and order_theory's Refusals.
+-- Rests on Written, neighbours' Writing and order_theory's Refusals.
 use Prim.Native.Nat.{ℕ, _+_, _*_, _<_}
 use native.Mathlib.Omega.{arith}
 use mathlib.Core.Path.{_≡_, refl, sym, ap, ap₂, _∙_}
@@ -11,7 +11,7 @@ use borrow.Author.Tests.{eq-eqb, ne-eqb}
 use Rattle.paper.specs.Map.{ins, linkFrom, linkOut, linkTo, linkIn, sourcePort, targetPort}
 use Rattle.order_theory.specs.Sound.{Sound}
 use Rattle.order_theory.proofs.Refusals.{sound}
-use Rattle.links_by_port.proofs.Writing.{
+use Rattle.neighbours.proofs.Writing.{
   source-known,
   target-known,
   node-inside,

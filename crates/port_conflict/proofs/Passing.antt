@@ -1,5 +1,5 @@
 -- The pass over the links: after k links an output's mark stands exactly if none of them is at it, and none of them was a conflict.
--- Rests on Conflict, Written, links_by_port's Writing and lists.AllAny.
+-- Rests on Conflict, Written, neighbours' Writing and lists.AllAny.
 use Prim.Native.Nat.{ℕ, _+_, _≤_, _<_}
 use native.Mathlib.Decide.{ℕ-discrete}
 use native.Mathlib.Omega.{arith}
@@ -13,7 +13,7 @@ use borrow.Author.Tests.{ne-eqb}
 use Rattle.lists.proofs.AllAny.{any-true, any-false, any-next-false}
 use Rattle.paper.specs.Map.{sourcePort, targetPort}
 use Rattle.order_theory.proofs.Refusals.{sound}
-use Rattle.links_by_port.proofs.Writing.{source-below, target-below}
+use Rattle.neighbours.proofs.Writing.{source-below, target-below}
 use Rattle.tables.specs.Within.{Within}
 use Rattle.tables.proofs.Within.{within-none, within-set}
 use Rattle.port_conflict.specs.FirstLinks.{touches, unlinked, joined, meets}

@@ -15,7 +15,7 @@ use Rattle.lists.proofs.Upto.{length-table, getD-zeros}
 use Rattle.paper.specs.Map.{N, L, P, firstPort, sourcePort}
 use Rattle.paper.specs.Area.{Section, size, section, orderOf}
 use Rattle.counting_sort.specs.Sorted.{startsBy, sortedBy}
-use Rattle.links_by_port.specs.Tabled.{byPort}
+use Rattle.neighbours.specs.Tabled.{byPort}
 use Rattle.lines_theory.proofs.Written.{start-is}
 use Rattle.toposort.specs.Standing.{Indexed}
 use Rattle.toposort.specs.Laid.{Ready, firstsAt, keysAt, startsAt, sortedAt}

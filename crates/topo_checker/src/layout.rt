@@ -2,7 +2,7 @@
 ghost use Rattle.toposort.specs.Laid.{Ready};
 ghost use Rattle.tables.specs.UsableBy.{Usable};
 ghost use Rattle.topo_checker.specs.Layout.{LaidOut, LinksLaid, Ordered, PlacesKept};
-use links_by_port::links_by_output;
+use neighbours::by_port::links_by_output;
 use stepmap::ports::first_ports;
 use words::section::fill;
 use words::section::word_at;

@@ -1,5 +1,5 @@
 -- The scratch laid out: what each step of the ordering finds, one section after the other, and what they come to.
--- Rests on lists.Sections and links_by_port.
+-- Rests on lists.Sections and neighbours.
 use Prim.Native.Nat.{ℕ, suc, _+_, _≤_, _<_}
 use native.Mathlib.Omega.{arith}
 use mathlib.Core.Path.{_≡_, refl, sym, ap, ap₂, _∙_}
@@ -17,8 +17,8 @@ use Rattle.stepmap.specs.Formed.{ReadWell}
 use Rattle.counting_sort.specs.Sorted.{below, startsBy, sortedBy}
 use Rattle.counting_sort.proofs.Counting.{below-all}
 use Rattle.counting_sort.proofs.Parts.{before-key}
-use Rattle.links_by_port.specs.Tabled.{Roomy, byPort}
-use Rattle.links_by_port.proofs.Writing.{source-below}
+use Rattle.neighbours.specs.Tabled.{Roomy, byPort}
+use Rattle.neighbours.proofs.Writing.{source-below}
 use Rattle.toposort.specs.Standing.{Ordering, laid}
 use Rattle.toposort.specs.Laid.{firstsAt, keysAt, startsAt, sortedAt, countsAt, Ready, indexed, orderLaid}
 

@@ -1,5 +1,5 @@
 -- What is read from the links by output port in the area: a node's first port, where its links start and end, and the links.
--- Rests on links_by_port.NodeLinks.
+-- Rests on neighbours.NodeLinks.
 use Prim.Native.Nat.{ℕ, suc, _+_, _-_, _≤_, _<_}
 use native.Mathlib.Omega.{arith}
 use mathlib.Core.Path.{_≡_, sym, ap, _∙_}
@@ -13,7 +13,7 @@ use Rattle.order_theory.specs.Sound.{Sound}
 use Rattle.order_theory.proofs.Refusals.{sound}
 use Rattle.counting_sort.specs.Sorted.{below, startsBy}
 use Rattle.counting_sort.proofs.Counting.{below-le, below-length}
-use Rattle.links_by_port.proofs.NodeLinks.{out-part}
+use Rattle.neighbours.proofs.NodeLinks.{out-part}
 use Rattle.toposort.specs.Standing.{Indexed}
 
 -- the ports that the links start at

@@ -18,7 +18,7 @@ use Rattle.order_theory.proofs.Links.{in-count}
 use Rattle.order_theory.proofs.Refusals.{sound}
 use Rattle.counting_sort.specs.Keyed.{Keyed, keysOf, tallied}
 use Rattle.counting_sort.proofs.Tallying.{length-tallied}
-use Rattle.links_by_port.proofs.Writing.{target-known}
+use Rattle.neighbours.proofs.Writing.{target-known}
 use Rattle.toposort.specs.Standing.{Counting, openInputs}
 
 -- how often a node is a target

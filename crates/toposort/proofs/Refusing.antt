@@ -16,7 +16,7 @@ use Rattle.order_theory.proofs.Queue.{room}
 use Rattle.order_theory.proofs.Queued.{queued}
 use Rattle.order_theory.proofs.Refusals.{sound}
 use Rattle.counting_sort.specs.Sorted.{startsBy, sortedBy}
-use Rattle.links_by_port.specs.Tabled.{byPort}
+use Rattle.neighbours.specs.Tabled.{byPort}
 use Rattle.toposort.specs.declared.queue.Order.{Order}
 use Rattle.toposort.specs.declared.queue.Order.the-variants.{All, Cycle}
 use Rattle.toposort.specs.Queue.{orderSaid}

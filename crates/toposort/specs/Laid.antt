@@ -1,5 +1,5 @@
 -- The scratch as ordering lays it out, and what it leaves in the area.
--- Rests on paper's Area, links_by_port's byPort and Standing.
+-- Rests on paper's Area, neighbours' byPort and Standing.
 use Prim.Native.Nat.{ℕ, _+_, _*_, _≤_}
 use mathlib.Core.Path.{_≡_}
 use mathlib.Core.List.{List, [], _∷_, _++_, map}
@@ -13,7 +13,7 @@ use Rattle.refusals.specs.Said.{refusedBy}
 use Rattle.paper.specs.Calls.{untouched, unprepared}
 use Rattle.paper.specs.Area.{cleared}
 use Rattle.stepmap.specs.Formed.{ReadWell}
-use Rattle.links_by_port.specs.Tabled.{byPort}
+use Rattle.neighbours.specs.Tabled.{byPort}
 use Rattle.toposort.specs.Standing.{laid}
 use Rattle.toposort.specs.declared.ordering.Ordered.{Ordered}
 use Rattle.toposort.specs.declared.ordering.Ordered.the-variants.{Done, Refused}

@@ -12,7 +12,7 @@ use Rattle.paper.specs.Order.{Queue, queueAfter}
 use Rattle.paper.specs.Refusals.{passed, rule45}
 use Rattle.stepmap.specs.Formed.{ReadWell}
 use Rattle.counting_sort.specs.Sorted.{startsBy, sortedBy}
-use Rattle.links_by_port.specs.Tabled.{Tabled}
+use Rattle.neighbours.specs.Tabled.{Tabled}
 
 -- A sound map's first ports, where each port's links start, and the links by output port stand in the area, one section after the
 -- other: before them room for the order, after them for a counter of each node.

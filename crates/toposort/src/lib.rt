@@ -14,7 +14,7 @@ ghost use Rattle.paper.specs.Refusals.{rule6};
 ghost use Rattle.toposort.specs.Queue.{orderSaid};
 ghost use Rattle.toposort.specs.Standing.{Counting, Ordering, laid, openInputs};
 use counting_sort::tally;
-use links_by_port::keys::target_nodes;
+use neighbours::keys::target_nodes;
 use queue::Order;
 use queue::free_nodes;
 use queue::lowest_left;

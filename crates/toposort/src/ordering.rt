@@ -14,7 +14,7 @@ ghost use Rattle.toposort.specs.Laid.{OrderLeft, Ready, SizedLeft, order
 ghost use Rattle.toposort.specs.Queue.{orderSaid};
 use super::queue::Order;
 use super::toposort;
-use links_by_port::links_by_output;
+use neighbours::by_port::links_by_output;
 use refusals::Refusal;
 use refusals::never;
 use stepmap::links::Links;

@@ -1,9 +1,6 @@
 pub mod Joining
 pub mod Lowest
-pub mod Targets
 pub mod Neighbours
-pub mod Linking
-pub mod Indexing
 pub mod Turning
 pub mod Below
 pub mod Good

@@ -14,7 +14,8 @@ use Rattle.lists.proofs.Upto.{table-suc}
 use Rattle.paper.specs.Intervals.{Interval}
 use Rattle.paper.specs.Records.{recordAt, recordsIn}
 use Rattle.paper.specs.Walk.{M}
-use Rattle.tables.specs.UsableBy.{positionsAt, nodeStartsAt, linesAt, entriesOf}
+use Rattle.tables.specs.declared.Layout.{Layout}
+use Rattle.tables.specs.Usable.{entriesOf}
 use Rattle.walk.specs.Lows.{Lined, Asked, lowsLaid, belowLows}
 
 pub records-next : (words : List ℕ) (i : ℕ) → recordsIn words (suc i) ≡ recordsIn words i ++ (recordAt words i ∷ [])
@@ -71,22 +72,22 @@ any-nowhere : (f : ℕ → Bool) (xs : List ℕ) → ((i : ℕ) → i < length x
 any-nowhere f [] h = refl
 any-nowhere f (x ∷ xs) h = ap₂ _||_ (h 0 (omega arith)) (any-nowhere f xs (λ i l. h (suc i) (omega arith)))
 
-module _ (a : List ℕ) (n lows v : ℕ) {lines : List ℕ} {pos : ℕ} (entries : lines ≡ entriesOf a (nodeStartsAt n) (linesAt n) v)
-    (position : pos ≡ getD a (positionsAt n + v) 0) where
+module _ (a : List ℕ) (at : Layout) (lows v : ℕ) {lines : List ℕ} {pos : ℕ} (entries : lines ≡ entriesOf a (at .begins) (at .lines) v)
+    (position : pos ≡ getD a (at .positions + v) 0) where
   low : ℕ → Bool
   low x = ltb pos (getD a (lows + x) 0)
 
-  below-is : belowLows a n lows v ≡ any low lines
+  below-is : belowLows a at lows v ≡ any low lines
   unfolding belowLows low
   below-is = ap₂ (λ (xs : List ℕ) (q : ℕ). any (λ x. ltb q (getD a (lows + x) 0)) xs) (sym entries) (sym position)
 
-  pub line-inside : Asked a n lows v → (i : ℕ) {x : ℕ} → i < length lines → x ≡ getD lines i 0 → lows + x < length a
+  pub line-inside : Asked a at lows v → (i : ℕ) {x : ℕ} → i < length lines → x ≡ getD lines i 0 → lows + x < length a
   line-inside asked i {x} h line =
       subst (λ (y : ℕ). lows + y < length a) (ap (λ (xs : List ℕ). getD xs i 0) (sym entries) ∙ sym line)
       (asked .inside i (omega (arith, ap length entries)))
 
   -- a line on which it stands below
-  pub below-here : (i : ℕ) {x lowest : ℕ} → i < length lines → x ≡ getD lines i 0 → lowest ≡ getD a (lows + x) 0 → pos < lowest → true ≡ belowLows a n lows v
+  pub below-here : (i : ℕ) {x lowest : ℕ} → i < length lines → x ≡ getD lines i 0 → lowest ≡ getD a (lows + x) 0 → pos < lowest → true ≡ belowLows a at lows v
   unfolding low
   below-here i {x} h line word less =
       sym (below-is ∙ any-here low lines i h (lt-ltb pos _ (omega (arith, ap (λ (y : ℕ). getD a (lows + y) 0) line))))
@@ -95,6 +96,6 @@ module _ (a : List ℕ) (n lows v : ℕ) {lines : List ℕ} {pos : ℕ} (entries
   pub not-below : (i : ℕ) {x lowest : ℕ} → x ≡ getD lines i 0 → lowest ≡ getD a (lows + x) 0 → lowest ≤ pos → getD a (lows + getD lines i 0) 0 ≤ pos
   not-below i line word less = omega (arith, ap (λ (y : ℕ). getD a (lows + y) 0) line)
 
-  pub below-nowhere : (i : ℕ) → length lines ≤ i → ((k : ℕ) → k < i → getD a (lows + getD lines k 0) 0 ≤ pos) → false ≡ belowLows a n lows v
+  pub below-nowhere : (i : ℕ) → length lines ≤ i → ((k : ℕ) → k < i → getD a (lows + getD lines k 0) 0 ≤ pos) → false ≡ belowLows a at lows v
   unfolding low
   below-nowhere i all passed = sym (below-is ∙ any-nowhere low lines (λ k h. le-ltb pos _ (passed k (omega arith))))

@@ -1,6 +1,6 @@
 pub mod Queue
 pub mod Lows
-pub mod Links
+pub mod Fitting
 pub mod Turns
 pub mod Walks
 pub mod Starts

@@ -7,11 +7,8 @@ use lib.ListN.{length, getD, set}
 use lib.Dec.{eqb, ltb}
 use Rattle.lists.specs.Lists.{any}
 use Rattle.paper.specs.Records.{recordAt}
-use Rattle.tables.specs.UsableBy.{Spanned, positionsAt, nodeStartsAt, linesAt, entriesOf}
-
--- where the section stands, behind the queue and its marks
-abbrev pub lowsAt : ℕ → ℕ → ℕ → ℕ
-lowsAt n l p = 5 + 9 * n + 7 * l + p
+use Rattle.tables.specs.declared.Layout.{Layout}
+use Rattle.tables.specs.Usable.{Spanned, entriesOf}
 
 -- the first i records' lowest position on line x
 unfoldable pub lowOn : List ℕ → ℕ → ℕ → ℕ
@@ -29,11 +26,11 @@ pub record Lined (a : List ℕ) (lows : ℕ) (words : List ℕ) (count : ℕ) : 
   pub inside : (i : ℕ) → i < count → lows + recordAt words i .line < length a
 
 -- node v stands below the lowest position of one of its lines
-unfoldable pub belowLows : List ℕ → ℕ → ℕ → ℕ → Bool
-belowLows a n lows v = any (λ x. ltb (getD a (positionsAt n + v) 0) (getD a (lows + x) 0)) (entriesOf a (nodeStartsAt n) (linesAt n) v)
+unfoldable pub belowLows : List ℕ → Layout → ℕ → ℕ → Bool
+belowLows a at lows v = any (λ x. ltb (getD a (at .positions + v) 0) (getD a (lows + x) 0)) (entriesOf a (at .begins) (at .lines) v)
 
 -- its position and its lines stand in the area, and each of them has a word
-pub record Asked (a : List ℕ) (n lows v : ℕ) : Type 0 where
-  pub position : positionsAt n + v < length a
-  pub span : Spanned a (nodeStartsAt n) (linesAt n) v
-  pub inside : (i : ℕ) → i < length (entriesOf a (nodeStartsAt n) (linesAt n) v) → lows + getD (entriesOf a (nodeStartsAt n) (linesAt n) v) i 0 < length a
+pub record Asked (a : List ℕ) (at : Layout) (lows v : ℕ) : Type 0 where
+  pub position : at .positions + v < length a
+  pub span : Spanned a (at .begins) (at .lines) v
+  pub inside : (i : ℕ) → i < length (entriesOf a (at .begins) (at .lines) v) → lows + getD (entriesOf a (at .begins) (at .lines) v) i 0 < length a

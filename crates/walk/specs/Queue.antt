@@ -1,6 +1,6 @@
 -- The queue and its marks in the scratch: room for n nodes from `queue` on, and after it a mark for each node.
 -- Rests on walk_theory's Marked and Joined, and tables' Within.
-use Prim.Native.Nat.{ℕ, _+_, _*_, _≤_, _<_}
+use Prim.Native.Nat.{ℕ, _+_, _≤_, _<_}
 use mathlib.Core.Path.{_≡_}
 use mathlib.Core.List.{List}
 use lib.ListN.{length, getD}
@@ -9,10 +9,6 @@ use Rattle.lists.proofs.Sections.{part}
 use Rattle.walk_theory.specs.Marked.{joinAll}
 use Rattle.walk_theory.specs.Joined.{Joined}
 use Rattle.tables.specs.Within.{Within}
-
--- where the queue of the walk stands, behind the links by output port
-abbrev pub queueAt : ℕ → ℕ → ℕ → ℕ
-queueAt n l p = 5 + 7 * n + 7 * l + p
 
 -- `joined` nodes have joined, each once, and the marks tell which
 pub record Queued (a : List ℕ) (queue n joined : ℕ) : Type 0 where

@@ -6,27 +6,22 @@ pub mod queue;
 pub mod starts;
 pub mod turns;
 
-ghost use Rattle.tables.specs.UsableBy.{Usable};
+ghost use Rattle.tables.specs.Usable.{Usable};
 ghost use Rattle.tables.specs.Recorded.{Recorded};
 ghost use Rattle.walk.specs.Walks.{Walks};
+use starts::lay;
 use starts::start;
+use tables::Layout;
 use turns::Walked;
 use turns::turns;
 
 // Whether no path leads from an end of a record to the start of one (the Rust's `is_convex_by_intervals`), with how many nodes were looked at.
-pub fn walk(
-    b: &[u8],
-    n: usize,
-    l: usize,
-    p: usize,
-    area: &mut [u16],
-    records: &[u16],
-    count: usize,
-) -> Walked
-    requires { ⌜ Usable (now b) (now area) n l p ⌝ }
+pub fn walk(b: &[u8], at: Layout, area: &mut [u16], records: &[u16], count: usize) -> Walked
+    requires { ⌜ Usable (now b) (now area) at ⌝ }
     requires { ⌜ Recorded (now b) (now area) (now records) count ⌝ }
-    ensures { λ r. ⌜ Walks (now (b .entry)) (now (area .entry)) (now (records .entry)) count n l p r (now (area .exit)) ⌝ }
+    ensures { λ r. ⌜ Walks (now (b .entry)) (now (area .entry)) (now (records .entry)) count at r (now (area .exit)) ⌝ }
 {
-    let joined = start(b, n, l, p, area, records, count);
-    turns(b, n, l, p, area, records, count, joined)
+    let room = lay(b, at, area, records, count);
+    let joined = start(b, at, area, room, records, count);
+    turns(b, at, area, room, records, count, joined)
 }

@@ -1,5 +1,6 @@
 // Translated from src/algorithms/convex/line_convex_checker.rs of portgraph (88172a3c8e, Apache-2.0, see NOTICE), and changed: the lowest
 // positions of the records stand by line, so that a node asks once for each of its lines.
+use tables::Layout;
 use tables::entries;
 use words::field::wide;
 use words::section::word_at;
@@ -46,12 +47,12 @@ pub fn lay_lows(area: &mut [u16], lows: usize, records: &[u16], count: usize)
 }
 
 // Whether node v stands below the lowest position of a record on one of its lines: there is a path from an output to an input.
-pub fn stands_below(area: &[u16], n: usize, lows: usize, v: usize) -> bool
-    requires { ⌜ Asked (now area) n lows v ⌝ }
-    ensures { λ r. ⌜ r ≡ belowLows (now (area .entry)) n lows v ⌝ }
+pub fn stands_below(area: &[u16], at: Layout, lows: usize, v: usize) -> bool
+    requires { ⌜ Asked (now area) at lows v ⌝ }
+    ensures { λ r. ⌜ r ≡ belowLows (now (area .entry)) at lows v ⌝ }
 {
-    let lines = entries(area, 1 + 2 * n, 2 + 3 * n, v);
-    let pos = word_at(area, 1 + n, v);
+    let lines = entries(area, at.begins, at.lines, v);
+    let pos = word_at(area, at.positions, v);
     let mut i = 0;
     while i < lines.len() {
         if pos < word_at(area, lows, wide(lines[i])) {

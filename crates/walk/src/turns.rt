@@ -3,6 +3,8 @@
 use super::links::join_neighbours;
 use super::lows::largest_lowest;
 use super::lows::stands_below;
+use super::starts::Room;
+use tables::Layout;
 use words::section::word_at;
 ghost use Rattle.walk.specs.Turns.{Turning, Turned};
 ghost use Rattle.walk.specs.Walks.{Started, Ended};
@@ -22,49 +24,47 @@ pub enum Walked {
 // Turn t: takes the node that joined t-th; above `top` it cannot come before any record.
 fn turn(
     b: &[u8],
-    n: usize,
-    l: usize,
-    p: usize,
+    at: Layout,
     area: &mut [u16],
+    room: Room,
     top: usize,
     t: usize,
     joined: usize,
     counted: usize,
 ) -> Step
-    requires { ⌜ Turning (now b) (now area) n l p t joined counted ⌝ }
-    ensures { λ r. ⌜ Turned (now (b .entry)) (now (area .entry)) n l p top t joined counted r (now (area .exit)) ⌝ }
+    requires { ⌜ Turning (now b) (now area) at room t joined counted ⌝ }
+    ensures { λ r. ⌜ Turned (now (b .entry)) (now (area .entry)) at room top t joined counted r (now (area .exit)) ⌝ }
 {
-    let v = word_at(area, 5 + 7 * n + 7 * l + p, t);
-    if top < word_at(area, 1 + n, v) {
+    let v = word_at(area, room.queue, t);
+    if top < word_at(area, at.positions, v) {
         return Step::Goes(joined, counted);
     }
-    if stands_below(area, n, 5 + 9 * n + 7 * l + p, v) {
+    if stands_below(area, at, room.lows, v) {
         return Step::Stops(counted + 1);
     }
-    let grown = join_neighbours(b, n, l, p, area, v, joined);
+    let grown = join_neighbours(b, at.sizes, area, room.queue, room.links, v, joined);
     Step::Goes(grown, counted + 1)
 }
 
 // Takes turns until one says no or all who joined were taken.
 pub fn turns(
     b: &[u8],
-    n: usize,
-    l: usize,
-    p: usize,
+    at: Layout,
     area: &mut [u16],
+    room: Room,
     records: &[u16],
     count: usize,
     joined: usize,
 ) -> Walked
-    requires { ⌜ Started (now b) (now area) (now records) count n l p joined ⌝ }
-    ensures { λ r. ⌜ Ended (now (b .entry)) (now (area .entry)) (now (records .entry)) count n l p r (now (area .exit)) ⌝ }
+    requires { ⌜ Started (now b) (now area) (now records) count at room joined ⌝ }
+    ensures { λ r. ⌜ Ended (now (b .entry)) (now (area .entry)) (now (records .entry)) count at room r (now (area .exit)) ⌝ }
 {
     let top = largest_lowest(records, count);
     let mut grown = joined;
     let mut counted = 0;
     let mut t = 0;
     while t < grown {
-        let step = turn(b, n, l, p, area, top, t, grown, counted);
+        let step = turn(b, at, area, room, top, t, grown, counted);
         match step {
             Step::Stops(stopped) => {
                 return Walked::No(stopped);

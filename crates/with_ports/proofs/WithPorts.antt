@@ -18,12 +18,14 @@ use Rattle.answers.specs.Said.{lineSaid, topoSaid}
 use Rattle.answers.specs.declared.LineAnswer.{LineAnswer}
 use Rattle.answers.specs.declared.LineAnswer.the-variants as Line
 use Rattle.line_checker.proofs.RecordCalls.{said-after}
+use Rattle.tables.specs.declared.Layout.{Layout}
+use Rattle.tables.specs.Answered.{Answered}
+use Rattle.tables.specs.Usable.{Usable, Scratched}
+use Rattle.tables.specs.Placed.{scratchSize}
 use Rattle.answers.proofs.LineAnswer.{the-type as line-type}
 use Rattle.answers.specs.declared.TopoAnswer.{TopoAnswer}
 use Rattle.answers.specs.declared.TopoAnswer.the-variants as Topo
 use Rattle.answers.proofs.TopoAnswer.{the-type as topo-type}
-use Rattle.tables.specs.AnsweredBy.{Answered}
-use Rattle.tables.specs.UsableBy.{Usable, Scratched, scratchAt, scratchSize}
 use Rattle.tables.proofs.Within.{within-both, within-wider}
 use Rattle.with_ports.specs.AfterPorts.{afterPorts}
 
@@ -44,16 +46,16 @@ order-passed (Topo.Refused x) h = absurd (miss (0 ∷ 1 ∷ []) 2 tt h)
 -- ---- the check, then the ports
 
 -- the ports' words fit into the scratch of the area that the check leaves
-pub ports-fit : {b a m : List ℕ} {n l p : ℕ} → Usable b a n l p → Scratched n l p a m → scratchAt n l + (n + 1) + 2 * p ≤ length m
-ports-fit usable kept = omega (arith, usable .room, kept .long)
+pub ports-fit : {b a m : List ℕ} {at : Layout} → Usable b a at → Scratched at a m → at .scratch + (at .sizes .nodes + 1) + 2 * at .sizes .ports ≤ length m
+ports-fit usable kept = omega (arith, usable .placed .after-scratch, usable .room, kept .long)
 
-module _ {A : Type 0} {n l p : ℕ} {a m : List ℕ} {said : Answer A} {rules : List Ruling} {x : A} (checked : Answered n l p a m said rules x) where
+module _ {A : Type 0} {at : Layout} {a m : List ℕ} {said : Answer A} {rules : List Ruling} {x : A} (checked : Answered at a m said rules x) where
   -- the check's answer tells what its rules decided
   decided : decide rules ≡ ruling said
   decided = sym (ruling-answer (decide rules) x) ∙ ap ruling (sym (checked .says))
 
   -- "the check chosen, whose refusals come first"
-  pub check-refused : {k v : ℕ} → said ≡ refused k v → (rest : List Ruling) (y : A) → Answered n l p a m said (rules ++ rest) y
+  pub check-refused : {k v : ℕ} → said ≡ refused k v → (rest : List Ruling) (y : A) → Answered at a m said (rules ++ rest) y
   unfolding ruling answer
   check-refused {k} {v} e rest y =
       record {
@@ -73,8 +75,8 @@ module _ {A : Type 0} {n l p : ℕ} {a m : List ℕ} {said : Answer A} {rules : 
 
   -- "no (count 0) if any listed input is the other end of the FIRST link of a listed output; else the check chosen"
   pub then-ports : ruling said ≡ passed → {b o inputs outputs : List ℕ} {found : Answer Bool}
-      → PortsChecked b m o n p (scratchAt n l) inputs outputs found → (denied : A) {y : Answer A} → y ≡ afterPorts found denied said
-      → Answered n l p a o y (rules ++ portRules b inputs outputs) (cond (conflict b inputs outputs) denied x)
+      → PortsChecked b m o (at .sizes .nodes) (at .sizes .ports) (at .scratch) inputs outputs found → (denied : A) {y : Answer A} → y ≡ afterPorts found denied said
+      → Answered at a o y (rules ++ portRules b inputs outputs) (cond (conflict b inputs outputs) denied x)
   unfolding answer
   then-ports passes {b} {o} {inputs} {outputs} {found} looked denied e =
       record {
@@ -83,7 +85,7 @@ module _ {A : Type 0} {n l p : ℕ} {a m : List ℕ} {said : Answer A} {rules : 
             (e ∙ ap (λ (f : Answer Bool). afterPorts f denied said) (looked .says)
             ∙ ap (afterPorts (answer (decide ports) (conflict b inputs outputs)) denied) replied
             ∙ ports-said (decide ports) (conflict b inputs outputs) denied);
-        kept = within-both (checked .kept) (within-wider (looked .kept) (scratchAt n l) (scratchSize n l p) (omega arith) (omega arith));
+        kept = within-both (checked .kept) (within-wider (looked .kept) (at .scratch) (scratchSize (at .sizes)) (omega arith) (omega arith));
       }
     where
       ports : List Ruling

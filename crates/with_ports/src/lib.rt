@@ -8,8 +8,8 @@ ghost use Rattle.paper.specs.Intervals.{Reply};
 ghost use Rattle.paper.specs.OrderCheck.{orderCheck};
 ghost use Rattle.paper.specs.Ports.{conflict};
 ghost use Rattle.paper.specs.Walk.{lineCheck};
-ghost use Rattle.tables.specs.AnsweredBy.{Answered};
-ghost use Rattle.tables.specs.UsableBy.{Usable};
+ghost use Rattle.tables.specs.Answered.{Answered};
+ghost use Rattle.tables.specs.Usable.{Usable};
 ghost use Rattle.port_conflict.specs.Said.{portsSaid};
 ghost use Rattle.answers.specs.Said.{lineSaid, topoSaid};
 ghost use Rattle.with_ports.specs.AfterPorts.{afterPorts};
@@ -19,6 +19,7 @@ use line_checker::line_check::check_list;
 use port_conflict::PortsFound;
 use port_conflict::check_ports;
 use refusals::Refusal;
+use tables::Layout;
 use topo_checker::check_order;
 
 // The line check's answer by what the ports come to: refusal 14, no with count 0 on a conflict, else what it was.
@@ -35,23 +36,21 @@ pub fn line_after_ports(found: PortsFound, checked: LineAnswer) -> LineAnswer
 // The line check with ports: the check's refusals come first, then 14; no with count 0 on a conflict; else the check.
 pub fn check_list_with_ports(
     b: &[u8],
-    n: usize,
-    l: usize,
-    p: usize,
+    at: Layout,
     area: &mut [u16],
     list: &[u16],
     inputs: &[u16],
     outputs: &[u16],
 ) -> LineAnswer
-    requires { ⌜ Usable (now b) (now area) n l p ⌝ }
-    ensures { λ r. ⌜ Answered n l p (now (area .entry)) (now (area .exit)) (lineSaid r)
+    requires { ⌜ Usable (now b) (now area) at ⌝ }
+    ensures { λ r. ⌜ Answered at (now (area .entry)) (now (area .exit)) (lineSaid r)
         (lineRules (now (b .entry)) (now (list .entry)) ++ portRules (now (b .entry)) (now (inputs .entry)) (now (outputs .entry)))
         (cond (conflict (now (b .entry)) (now (inputs .entry)) (now (outputs .entry))) (Reply.No, 0)
         (lineCheck (now (b .entry)) (now (area .entry)) (now (list .entry)))) ⌝ }
 {
-    let checked = check_list(b, n, l, p, area, list);
+    let checked = check_list(b, at, area, list);
     let LineAnswer::Refused(_) = checked else {
-        let found = check_ports(b, n, l, p, area, 3 + 6 * n + 5 * l, inputs, outputs);
+        let found = check_ports(b, at.sizes.nodes, at.sizes.links, at.sizes.ports, area, at.scratch, inputs, outputs);
         return line_after_ports(found, checked);
     };
     checked
@@ -71,23 +70,21 @@ pub fn order_after_ports(found: PortsFound, checked: TopoAnswer) -> TopoAnswer
 // The order check with ports: its refusal comes first, then 14; no on a conflict; else the check.
 pub fn check_order_with_ports(
     b: &[u8],
-    n: usize,
-    l: usize,
-    p: usize,
+    at: Layout,
     area: &mut [u16],
     list: &[u16],
     inputs: &[u16],
     outputs: &[u16],
 ) -> TopoAnswer
-    requires { ⌜ Usable (now b) (now area) n l p ⌝ }
-    ensures { λ r. ⌜ Answered n l p (now (area .entry)) (now (area .exit)) (topoSaid r)
+    requires { ⌜ Usable (now b) (now area) at ⌝ }
+    ensures { λ r. ⌜ Answered at (now (area .entry)) (now (area .exit)) (topoSaid r)
         (orderRules (now (b .entry)) (now (list .entry)) ++ portRules (now (b .entry)) (now (inputs .entry)) (now (outputs .entry)))
         (cond (conflict (now (b .entry)) (now (inputs .entry)) (now (outputs .entry))) Reply.No
         (orderCheck (now (b .entry)) (now (area .entry)) (now (list .entry)))) ⌝ }
 {
-    let checked = check_order(b, n, l, p, area, list);
+    let checked = check_order(b, at.sizes.nodes, at.sizes.links, at.sizes.ports, area, list);
     let TopoAnswer::Refused(_) = checked else {
-        let found = check_ports(b, n, l, p, area, 3 + 6 * n + 5 * l, inputs, outputs);
+        let found = check_ports(b, at.sizes.nodes, at.sizes.links, at.sizes.ports, area, at.scratch, inputs, outputs);
         return order_after_ports(found, checked);
     };
     checked

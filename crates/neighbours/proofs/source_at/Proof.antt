@@ -2,12 +2,12 @@
 -- Rests on Reading.
 use borrow.Author.Needs.{needs}
 use mathlib.Core.Path.{_∙_}
-use Rattle.neighbours.proofs.Reading.{has-source, source-is}
+use Rattle.neighbours.proofs.Reading.{has-listed, source-is}
 use Rattle.neighbours.proofs.source_at.Statement.{statement}
 use Rattle.neighbours.proofs.source_at.Tie as tie
 
 link-from-requires : tie.Need-link-from-requires
-link-from-requires c κs = has-source (c .before .before .before .pre .0) (c .before .before .before .pre .1) (c .word-at .ensures)
+link-from-requires c κs = has-listed (c .before .before .before .pre .0) (c .before .before .before .pre .1) (c .word-at .ensures)
 
 returns : tie.Need-returns
 returns c = c .link-from .ensures ∙ source-is (c .before .before .before .before .pre .0) (c .before .before .before .before .pre .1) (c .before .word-at .ensures)

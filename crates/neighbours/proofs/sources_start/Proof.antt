@@ -2,12 +2,12 @@
 -- Rests on Reading.
 use borrow.Author.Needs.{needs}
 use mathlib.Core.Path.{_∙_}
-use Rattle.neighbours.proofs.Reading.{in-inside, in-start}
+use Rattle.neighbours.proofs.Reading.{start-inside, in-start}
 use Rattle.neighbours.proofs.sources_start.Statement.{statement}
 use Rattle.neighbours.proofs.sources_start.Tie as tie
 
 word-at-requires-2 : tie.Need-word-at-requires-2
-word-at-requires-2 c κs = in-inside (c .before .before .before .pre .0) (c .before .before .before .pre .1) (c .word-at .ensures)
+word-at-requires-2 c κs = start-inside (c .before .before .before .pre .0) (c .before .before .before .pre .1) (c .word-at .ensures)
 
 returns : tie.Need-returns
 returns c = c .word-at2 .ensures ∙ in-start (c .before .before .before .before .pre .0) (c .before .before .before .before .pre .1) (c .before .word-at .ensures)

@@ -2,12 +2,12 @@
 -- Rests on Reading.
 use borrow.Author.Needs.{needs}
 use mathlib.Core.Path.{_∙_}
-use Rattle.neighbours.proofs.Reading.{has-target, target-is}
+use Rattle.neighbours.proofs.Reading.{has-listed, target-is}
 use Rattle.neighbours.proofs.target_at.Statement.{statement}
 use Rattle.neighbours.proofs.target_at.Tie as tie
 
 link-to-requires : tie.Need-link-to-requires
-link-to-requires c κs = has-target (c .before .before .before .pre .0) (c .before .before .before .pre .1) (c .word-at .ensures)
+link-to-requires c κs = has-listed (c .before .before .before .pre .0) (c .before .before .before .pre .1) (c .word-at .ensures)
 
 returns : tie.Need-returns
 returns c = c .link-to .ensures ∙ target-is (c .before .before .before .before .pre .0) (c .before .before .before .before .pre .1) (c .before .word-at .ensures)

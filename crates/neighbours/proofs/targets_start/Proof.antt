@@ -2,12 +2,12 @@
 -- Rests on Reading.
 use borrow.Author.Needs.{needs}
 use mathlib.Core.Path.{_∙_}
-use Rattle.neighbours.proofs.Reading.{out-inside, out-start}
+use Rattle.neighbours.proofs.Reading.{start-inside, out-start}
 use Rattle.neighbours.proofs.targets_start.Statement.{statement}
 use Rattle.neighbours.proofs.targets_start.Tie as tie
 
 word-at-requires-2 : tie.Need-word-at-requires-2
-word-at-requires-2 c κs = out-inside (c .before .before .before .pre .0) (c .before .before .before .pre .1) (c .word-at .ensures)
+word-at-requires-2 c κs = start-inside (c .before .before .before .pre .0) (c .before .before .before .pre .1) (c .word-at .ensures)
 
 returns : tie.Need-returns
 returns c = c .word-at2 .ensures ∙ out-start (c .before .before .before .before .pre .0) (c .before .before .before .before .pre .1) (c .before .word-at .ensures)

@@ -13,23 +13,21 @@ use Rattle.on_line.proofs.index_on.Tie as tie
 
 find-index-requires : tie.Need-find-index-requires
 find-index-requires c κs =
-    let start = c .before .before .before in
+    let start = c .before .before .before .before in
     let args = start .args in
-    let nodes = c .before .entries in
-    subst₂ Line (sym (nodes .ensures)) (sym (handed (args .area .now) (args .n))) (start .pre .line)
+    let nodes = c .before .before .entries in
+    subst₂ Line (sym (nodes .ensures)) (sym (handed (args .area .now) (args .at .positions) (args .at .sizes .nodes))) (start .pre .line)
 
 returns : tie.Need-returns
 unfolding positionsAlong
 returns c =
-    let args = c .before .before .before .before .args in
-    let nodes = c .before .before .entries in
+    let args = c .before .before .before .before .before .args in
+    let nodes = c .before .before .before .entries in
     c .find-index .ensures
-    ∙ ap₂ (λ (xs ps : List ℕ). lookup (positionsOn xs ps) (args .pos)) (nodes .ensures) (handed (args .area .now) (args .n))
+    ∙ ap₂ (λ (xs ps : List ℕ). lookup (positionsOn xs ps) (args .pos)) (nodes .ensures) (handed (args .area .now) (args .at .positions) (args .at .sizes .nodes))
 
 pub index-on-spec : {M : Type 1} → statement M
 index-on-spec =
     tie.close
     (tie.spec
-    (search needs) (search needs) (search needs) (search needs) (search needs) (search needs) (search needs) (search needs)
-    (λ c κs. search needs) (search needs) (search needs) (search needs) (search needs) (search needs) (search needs) (search needs)
-    find-index-requires returns)
+    (λ c κs. search needs) (search needs) (search needs) (search needs) (search needs) (search needs) find-index-requires returns)

@@ -18,24 +18,22 @@ use Rattle.on_line.proofs.next_on.Tie as tie
 next-after-requires : tie.Need-next-after-requires
 unfolding positionsAlong
 next-after-requires c κs =
-    let start = c .before .before .before in
+    let start = c .before .before .before .before in
     let args = start .args in
-    let nodes = c .before .entries in
+    let nodes = c .before .before .entries in
     let line : List ℕ → List ℕ → Type 0 = λ xs ps. Line xs ps × (member (args .pos) (positionsOn xs ps) ≡ true) in
-    subst₂ line (sym (nodes .ensures)) (sym (handed (args .area .now) (args .n))) (start .pre .0 .line, start .pre .1)
+    subst₂ line (sym (nodes .ensures)) (sym (handed (args .area .now) (args .at .positions) (args .at .sizes .nodes))) (start .pre .0 .line, start .pre .1)
 
 returns : tie.Need-returns
 unfolding nextAlong
 returns c =
-    let args = c .before .before .before .before .args in
-    let nodes = c .before .before .entries in
+    let args = c .before .before .before .before .before .args in
+    let nodes = c .before .before .before .entries in
     c .next-after .ensures
-    ∙ ap₂ (λ (xs ps : List ℕ). front (keep (λ v. ltb (args .pos) (getD ps v 0)) xs)) (nodes .ensures) (handed (args .area .now) (args .n))
+    ∙ ap₂ (λ (xs ps : List ℕ). front (keep (λ v. ltb (args .pos) (getD ps v 0)) xs)) (nodes .ensures) (handed (args .area .now) (args .at .positions) (args .at .sizes .nodes))
 
 pub next-on-spec : {M : Type 1} → statement M
 next-on-spec =
     tie.close
     (tie.spec
-    (search needs) (search needs) (search needs) (search needs) (search needs) (search needs) (search needs) (search needs)
-    (λ c κs. search needs) (search needs) (search needs) (search needs) (search needs) (search needs) (search needs) (search needs)
-    next-after-requires returns)
+    (λ c κs. search needs) (search needs) (search needs) (search needs) (search needs) (search needs) next-after-requires returns)

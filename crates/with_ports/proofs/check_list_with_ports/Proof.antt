@@ -34,5 +34,4 @@ returns-2 c = check-refused (c .before .before .before .before .check-list .ensu
 pub check-list-with-ports-spec : {M : Type 1} → statement M
 check-list-with-ports-spec =
     tie.close
-    (tie.spec (λ c κs. search needs) (search needs) (search needs) (search needs) (search needs) (search needs) check-ports-requires
-    (λ c κs. search needs) (search needs) returns (search needs) returns-2)
+    (tie.spec (λ c κs. search needs) (search needs) check-ports-requires (λ c κs. search needs) (search needs) returns (search needs) returns-2)

@@ -18,4 +18,4 @@ returns c =
 pub order-after-ports-spec : {M : Type 1} → statement M
 order-after-ports-spec =
     tie.close (tie.spec
-    (search needs) (search needs) (search needs) returns (search needs) (search needs))
+    (search needs) (search needs) (search needs) returns (λ c. search needs) (λ c. search needs))

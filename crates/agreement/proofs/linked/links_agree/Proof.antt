@@ -24,4 +24,4 @@ links-agree-spec =
     tie.close
     (tie.spec
     (λ c κs. search needs) (λ c κs. search needs) (λ c κs. search needs) (λ c κs. search needs) (λ c κs. search needs) (search needs)
-    (search needs) (search needs) (search needs) (search needs) links-agree-in-requires (search needs))
+    (search needs) (search needs) (search needs) (search needs) links-agree-in-requires (λ c. search needs))

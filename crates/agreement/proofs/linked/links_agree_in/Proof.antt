@@ -94,5 +94,5 @@ links-agree-in-spec =
     (search needs) (search needs) (λ c κs. search needs) (λ c κs. search needs) (search needs) (search needs) (search needs)
     group-by-requires (search needs) (search needs) (search needs) group-by-requires-2 (search needs) (search needs) part-same-groups-end
     mul-same-groups (search needs) (search needs) part-same-groups-end-2 (search needs) (search needs) part-same-groups-end-3
-    mul-same-groups-2 (search needs) (search needs) part-same-groups-end-4 same-groups-requires same-length (search needs) same-length-3
-    (search needs) (search needs) returns)
+    mul-same-groups-2 (search needs) (search needs) part-same-groups-end-4 same-groups-requires same-length (λ c. search needs) same-length-3
+    (λ c. search needs) (λ c. search needs) returns)

@@ -43,4 +43,4 @@ lists-agree-in-spec =
     (search needs) (search needs) (search needs) (search needs) (λ c κs. search needs) (search needs) (search needs) (search needs)
     (search needs) (λ c κs. search needs) (search needs) (search needs) (search needs) group-by-requires (search needs) (search needs)
     (search needs) (search needs) (search needs) (search needs) (search needs) (search needs) (search needs) (search needs) (search needs)
-    (search needs) (search needs) (search needs) (search needs) same-groups-requires (search needs) same-length-2 (search needs) returns)
+    (search needs) (search needs) (search needs) (search needs) same-groups-requires (λ c. search needs) same-length-2 (λ c. search needs) returns)

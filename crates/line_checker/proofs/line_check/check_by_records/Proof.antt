@@ -2,7 +2,8 @@
 -- Rests on RecordCalls.
 use mathlib.Core.Path.{ap}
 use Rattle.records.specs.Tested.{checkedSaid}
-use Rattle.tables.proofs.UsableBy.{still-usable}
+use Rattle.tables.proofs.Bridge.{by-numbers, scratched-at}
+use Rattle.tables.proofs.Usable.{still-usable}
 use Rattle.line_checker.proofs.RecordCalls.{is-bad, no-records, by-records-refused, by-records-walked, recorded-still}
 use borrow.Author.Needs.{needs}
 use Rattle.line_checker.proofs.line_check.check_by_records.Statement.{statement}
@@ -11,7 +12,10 @@ use Rattle.line_checker.proofs.line_check.check_by_records.Tie as tie
 returns : tie.Need-returns
 returns c =
     let start = c .before .before .before .before in
-    no-records (start .args .n) (start .args .l) (start .args .p) _ _ (c .if1 .taken)
+    no-records (start .args .at) _ _ (c .if1 .taken)
+
+check-records-requires : tie.Need-check-records-requires
+check-records-requires c κs = by-numbers (c .before .before .before .before .before .pre)
 
 record-refusal-requires : tie.Need-record-refusal-requires
 record-refusal-requires c κs = is-bad (c .enum-told2 .given .1)
@@ -29,7 +33,7 @@ walk-requires c κs =
     let told = c .before in
     let tested = told .before .before .before .before in
     let start = tested .before .before .before .before .before .before in (
-      still-usable (start .pre) (tested .check-records .ensures .kept),
+      still-usable (start .pre) (scratched-at (start .pre) (tested .check-records .ensures .kept)),
       recorded-still (start .pre) (tested .check-records .ensures) (ap checkedSaid (told .enum-told .given .1)),
     )
 
@@ -47,5 +51,5 @@ pub check-by-records-spec : {M : Type 1} → statement M
 check-by-records-spec =
     tie.close
     (tie.spec
-    returns (λ c κs. search needs) (search needs) (search needs) record-refusal-requires (search needs) returns-2 walk-requires
+    returns check-records-requires (search needs) (search needs) record-refusal-requires (search needs) returns-2 walk-requires
     (λ c κs. search needs) (search needs) returns-3)

@@ -1,7 +1,8 @@
 -- `line_checker::line_check::check_listed` meets its contract: the intervals of the nodes in the scratch, and the walk on their records.
 -- Rests on LineCheck.
 use native.Mathlib.Omega.{arith}
-use Rattle.tables.proofs.UsableBy.{still-usable}
+use Rattle.tables.proofs.Bridge.{by-numbers, scratched-at}
+use Rattle.tables.proofs.Usable.{still-usable}
 use Rattle.line_checker.proofs.LineCheck.{gap-answered, recorded, walk-answered}
 use borrow.Author.Needs.{needs}
 use Rattle.line_checker.proofs.line_check.check_listed.Statement.{statement}
@@ -11,7 +12,7 @@ get-intervals-requires : tie.Need-get-intervals-requires
 get-intervals-requires c κs =
     let start = c .before .before .before .before .before in
     let usable = start .pre .0 in
-    (usable, (start .pre .1, omega (arith, c .before .before .record-room .ensures, usable .read .few-nodes, usable .read .few-links)))
+    (by-numbers usable, (start .pre .1, omega (arith, c .before .before .record-room .ensures, usable .read .few-nodes, usable .read .few-links)))
 
 returns : tie.Need-returns
 returns c =
@@ -24,7 +25,7 @@ walk-requires c κs =
     let made = c .before .before in
     let found = made .before .before .before .before .before .before in
     let start = found .before .before .before .before .before .before in (
-      still-usable (start .pre .0) (found .get-intervals .ensures .kept),
+      still-usable (start .pre .0) (scratched-at (start .pre .0) (found .get-intervals .ensures .kept)),
       recorded (start .pre .0) (start .pre .1) (found .get-intervals .ensures) (made .before .found .given .1),
     )
 

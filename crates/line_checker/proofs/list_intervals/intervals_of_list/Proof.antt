@@ -1,10 +1,10 @@
 -- `line_checker::list_intervals::intervals_of_list` meets its contract: no records for no nodes, 9 and 10 from taking the list in, then its intervals.
 -- Rests on IntervalsFound and intervals' Taken.
 use Rattle.tables.proofs.Within.{within-none}
-use Rattle.tables.proofs.UsableBy.{still-usable}
-use Rattle.intervals.proofs.Into.{into-answered}
+use Rattle.tables.proofs.Usable.{still-usable}
+use Rattle.line_checker.proofs.ByPlaces.{into-answered, taken-kept, taken-by, listed}
 use Rattle.line_checker.proofs.IntervalsFound.{empty-into, refused-into, nodes-into}
-use Rattle.intervals.proofs.Taken.{taken-kept, not-taken, all-taken, listed}
+use Rattle.intervals.proofs.Taken.{not-taken, all-taken}
 use borrow.Author.Needs.{needs}
 use Rattle.line_checker.proofs.list_intervals.intervals_of_list.Statement.{statement}
 use Rattle.line_checker.proofs.list_intervals.intervals_of_list.Tie as tie
@@ -22,7 +22,7 @@ returns-2 c =
     let taking = c .before .before .before .before .before in
     let asked = taking .before .before in
     let start = asked .before .before .before .before .before in
-    into-answered (taken-kept (start .args .n) (start .args .l) (start .args .p) (taking .take-in .ensures .kept))
+    into-answered (taken-kept (start .pre) (taking .take-in .ensures .kept))
     (refused-into (start .args .b .now) (start .args .area .now) (start .args .list .now) (start .args .buffer .now)
     (asked .if1 .left) (start .pre .read .nodes) (taking .take-in .ensures) (c .list-refusal .result) (c .list-refusal .ensures)
     (not-taken (c .before .enum-told .given .1)))
@@ -32,8 +32,8 @@ write-intervals-requires c κs =
     let told = c .before .before in
     let taking = told .before .before .before .before .before in
     let start = taking .before .before .before .before .before .before .before in
-    let kept = taken-kept (start .args .n) (start .args .l) (start .args .p) (taking .take-in .ensures .kept) in
-    (still-usable (start .pre) kept, listed (start .pre) (all-taken (taking .take-in .ensures) (told .before .taken .given .1)) kept)
+    let kept = taken-kept (start .pre) (taking .take-in .ensures .kept) in
+    (still-usable (start .pre) kept, listed (start .pre) (all-taken (taken-by (start .pre) (taking .take-in .ensures)) (told .before .taken .given .1)) kept)
 
 returns-3 : tie.Need-returns-3
 returns-3 c =
@@ -41,11 +41,12 @@ returns-3 c =
     let told = written .before .before .before in
     let taking = told .before .before .before .before .before in
     let start = taking .before .before .before .before .before .before .before in
-    let kept = taken-kept (start .args .n) (start .args .l) (start .args .p) (taking .take-in .ensures .kept) in
-    nodes-into (start .pre) (all-taken (taking .take-in .ensures) (told .before .taken .given .1)) kept (written .write-intervals .ensures)
+    let kept = taken-kept (start .pre) (taking .take-in .ensures .kept) in
+    nodes-into (start .pre) (all-taken (taken-by (start .pre) (taking .take-in .ensures)) (told .before .taken .given .1)) kept (written .write-intervals .ensures)
 
 pub intervals-of-list-spec : {M : Type 1} → statement M
 intervals-of-list-spec =
     tie.close
-    (tie.spec returns (search needs) (search needs) (search needs) (search needs) (λ c κs. search needs) (search needs) (search needs)
-    list-refusal-requires (search needs) returns-2 write-intervals-requires (search needs) (search needs) returns-3)
+    (tie.spec
+    returns (λ c κs. search needs) (search needs) (search needs) list-refusal-requires (search needs) returns-2
+    write-intervals-requires (search needs) (search needs) returns-3)

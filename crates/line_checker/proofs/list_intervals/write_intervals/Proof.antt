@@ -1,6 +1,7 @@
 -- `line_checker::list_intervals::write_intervals` meets its contract: the records go into the buffer if they fit.
 -- Rests on IntervalsFound.
 use native.Mathlib.Omega.{arith}
+use Rattle.tables.proofs.Bridge.{by-numbers}
 use Rattle.line_checker.proofs.IntervalsFound.{gap-into, records-inside, records-long, records-fit}
 use borrow.Author.Needs.{needs}
 use Rattle.line_checker.proofs.list_intervals.write_intervals.Statement.{statement}
@@ -10,32 +11,36 @@ get-intervals-requires : tie.Need-get-intervals-requires
 get-intervals-requires c κs =
     let start = c .before .before .before .before .before .before in
     let usable = start .pre .0 in
-    (usable, (start .pre .1, omega (arith, c .before .before .record-room .ensures, usable .read .few-nodes, usable .read .few-links)))
+    (by-numbers usable, (start .pre .1, omega (arith, c .before .before .record-room .ensures, usable .read .few-nodes, usable .read .few-links)))
 
 returns : tie.Need-returns
 returns c =
     let found = c .before .before .before .before .before in
-    gap-into (found .get-intervals .ensures) (found .before .before .before .before .before .before .before .args .buffer .now) (c .enum-told .given .1)
+    let start = found .before .before .before .before .before .before .before in
+    gap-into (start .pre .0) (found .get-intervals .ensures) (start .args .buffer .now) (c .enum-told .given .1)
 
 returns-2 : tie.Need-returns-2
 returns-2 c =
     let made = c .before in
     let found = made .before .before .before .before .before .before in
-    records-long (found .get-intervals .ensures) (found .before .before .before .before .before .before .before .args .buffer .now) (made .before .found .given .1)
+    let start = found .before .before .before .before .before .before .before in
+    records-long (start .pre .0) (found .get-intervals .ensures) (start .args .buffer .now) (made .before .found .given .1)
     (c .if1 .taken)
 
 copy-out-requires : tie.Need-copy-out-requires
 copy-out-requires c κs =
     let made = c .before .before .before in
     let found = made .before .before .before .before .before .before in
-    (records-inside (found .get-intervals .ensures) (found .before .before .before .before .before .before .before .args .buffer .now) (made .before .found .given .1), search needs)
+    let start = found .before .before .before .before .before .before .before in
+    (records-inside (start .pre .0) (found .get-intervals .ensures) (start .args .buffer .now) (made .before .found .given .1), search needs)
 
 returns-3 : tie.Need-returns-3
 returns-3 c =
     let copied = c .before .before in
     let made = copied .before .before .before .before in
     let found = made .before .before .before .before .before .before in
-    records-fit (found .get-intervals .ensures) (found .before .before .before .before .before .before .before .args .buffer .now) (made .before .found .given .1)
+    let start = found .before .before .before .before .before .before .before in
+    records-fit (start .pre .0) (found .get-intervals .ensures) (start .args .buffer .now) (made .before .found .given .1)
     (search needs) (copied .copy-out .ensures)
 
 pub write-intervals-spec : {M : Type 1} → statement M

@@ -1,4 +1,4 @@
--- `opening::ends::clear_scratch` meets its contract: the words of the scratch, by where it stands.
+-- `opening::ends::clear_scratch` meets its contract: the words of the scratch, up to its end.
 -- Rests on the contract of fill.
 use Rattle.opening.specs.Opened.{scratchZeroed}
 use borrow.Author.Needs.{needs}
@@ -10,8 +10,4 @@ unfolding scratchZeroed
 returns c = c .before .before .fill .ensures
 
 pub clear-scratch-spec : {M : Type 1} → statement M
-clear-scratch-spec =
-    tie.close
-    (tie.spec
-    (search needs) (search needs) (search needs) (search needs) (search needs) (search needs) (search needs) (search needs) (search needs)
-    (search needs) (λ c κs. search needs) (search needs) returns)
+clear-scratch-spec = tie.close (tie.spec (search needs) (λ c κs. search needs) (search needs) returns)

@@ -1,0 +1,16 @@
+-- `neighbours::both::target_at` meets its contract: a read of the link, and of its end.
+-- Rests on ReadingBy.
+use borrow.Author.Needs.{needs}
+use mathlib.Core.Path.{_∙_}
+use Rattle.neighbours.proofs.ReadingBy.{has-target, target-is}
+use Rattle.neighbours.proofs.both.target_at.Statement.{statement}
+use Rattle.neighbours.proofs.both.target_at.Tie as tie
+
+link-to-requires : tie.Need-link-to-requires
+link-to-requires c κs = has-target (c .before .before .before .pre .0) (c .before .before .before .pre .1) (c .word-at .ensures)
+
+returns : tie.Need-returns
+returns c = c .link-to .ensures ∙ target-is (c .before .before .before .before .pre .0) (c .before .before .before .before .pre .1) (c .before .word-at .ensures)
+
+pub target-at-spec : {M : Type 1} → statement M
+target-at-spec = tie.close (tie.spec (search needs) link-to-requires returns)
