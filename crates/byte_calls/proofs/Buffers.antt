@@ -9,7 +9,7 @@ use Rattle.paper.specs.Calls.{LeftWith}
 use Rattle.paper.specs.Words.{wordsFrom, putWords}
 use Rattle.words.proofs.RoundTrip.{Below, read-and-put}
 use Rattle.tables.specs.declared.Layout.{Layout}
-use Rattle.tables.specs.Answered.{AnsweredInto, Answeredtes}
+use Rattle.tables.specs.Answered.{AnsweredInto, AnsweredBytes}
 use Rattle.byte_calls.specs.Buffered.{buffered}
 
 module _ {A : Type 0} {said : Answer A} where
@@ -27,7 +27,7 @@ module _ {A : Type 0} {said : Answer A} where
 
   -- a question on bytes is the same question on their words
   pub answered-bytes : {at : Layout} {a z : List ℕ} {rules : List Ruling} {x : A} {bytes after result m : List ℕ} {left : LeftWith A}
-      → Answeredtes n l p a z said rules x bytes after result
+      → AnsweredBytes at a z said rules x bytes after result
       → (AnsweredInto at a z said rules x (wordsFrom bytes) (onRefusal (decide rules) (wordsFrom bytes) (sets (wordsFrom bytes) 0 result)) result
       → record { answer = said; area = m; buffer = onRefusal (decide rules) (wordsFrom bytes) (sets (wordsFrom bytes) 0 result) } ≡ left)
       → record { answer = said; area = m; buffer = after } ≡ buffered bytes left

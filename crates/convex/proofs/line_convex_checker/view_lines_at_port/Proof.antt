@@ -19,7 +19,7 @@ returns c =
 
 returns-2 : tie.Need-returns-2
 returns-2 c =
-    let told = c .before .before in
+    let told = c .before .before .before in
     let asked = told .before .before .before in
     let args = asked .before .before .before .args in
     let known = opened (args .map .now) (args .area .now) (asked .open-shared .result) (asked .open-shared .ensures) in
@@ -28,7 +28,7 @@ returns-2 c =
 
 lines-at-port-requires : tie.Need-lines-at-port-requires
 lines-at-port-requires c κs =
-    let told = c .before in
+    let told = c .before .before in
     let asked = told .before .before .before in
     let args = asked .before .before .before .args in
     let known = opened (args .map .now) (args .area .now) (asked .open-shared .result) (asked .open-shared .ensures) in
@@ -36,7 +36,7 @@ lines-at-port-requires c κs =
 
 returns-3 : tie.Need-returns-3
 returns-3 c =
-    let told = c .before .before in
+    let told = c .before .before .before in
     let asked = told .before .before .before in
     let args = asked .before .before .before .args in
     let known = opened (args .map .now) (args .area .now) (asked .open-shared .result) (asked .open-shared .ensures) in
