@@ -1,4 +1,4 @@
--- `recorded::answers::is_line_answer` meets its contract: what the line checker answers, told in numbers, is held against the rest.
+-- `recorded::held::is_line_answer` meets its contract: what the line checker answers, told in numbers, is held against the rest.
 -- Rests on Answers.
 use borrow.Author.Needs.{needs}
 use mathlib.Core.Path.{ap, _∙_}
@@ -6,8 +6,8 @@ use lib.ListN.{drop}
 use Rattle.lists.specs.Lists.{same}
 use Rattle.paper.specs.Exports.{Told}
 use Rattle.recorded.specs.Answers.{toldWords, lineWords}
-use Rattle.recorded.proofs.answers.is_line_answer.Statement.{statement}
-use Rattle.recorded.proofs.answers.is_line_answer.Tie as tie
+use Rattle.recorded.proofs.held.is_line_answer.Statement.{statement}
+use Rattle.recorded.proofs.held.is_line_answer.Tie as tie
 
 returns : tie.Need-returns
 unfolding toldWords lineWords

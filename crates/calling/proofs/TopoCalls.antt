@@ -17,8 +17,9 @@ use Rattle.refusals.specs.declared.Refusal.{Refusal}
 use Rattle.opening.specs.Opened.{OpenLeft, openedSaid, scratchZeroed}
 use Rattle.opening.specs.declared.Opened.{Opened}
 use Rattle.opening.specs.declared.Opened.the-variants.{Ready}
-use Rattle.tables.specs.AnsweredBy.{Answered}
-use Rattle.convex.proofs.Calling.{refused-call, answered-call, same-outcomes-so}
+use Rattle.tables.specs.declared.Layout.{Layout}
+use Rattle.tables.specs.Answered.{Answered}
+use Rattle.calling.proofs.Calling.{refused-call, answered-call, same-outcomes-so}
 
 module _ {b a : List ℕ} {o : Opened} {m : List ℕ} (known : OpenLeft b a o m) where
   pub order-refused : ruling (openedSaid o) ≢ passed → (x : Refusal) → ruled x ≡ ruling (openedSaid o) → (list : List ℕ)
@@ -26,8 +27,8 @@ module _ {b a : List ℕ} {o : Opened} {m : List ℕ} (known : OpenLeft b a o m)
   unfolding topoIsNodeConvex ruling
   order-refused out x e list = refused-call known out (refusedBy x) e (orderRules b list) (orderCheck b a list)
 
-  pub order-answered : {n l p : ℕ} → o ≡ Ready n l p → {z exit : List ℕ} → exit ≡ scratchZeroed z n l p → {x : Answer Reply} (list : List ℕ)
-      → Answered n l p m z x (orderRules b list) (orderCheck b m list) → record { answer = x; area = exit } ≡ topoIsNodeConvex b a list
+  pub order-answered : {at : Layout} → o ≡ Ready at → {z exit : List ℕ} → exit ≡ scratchZeroed z at → {x : Answer Reply} (list : List ℕ)
+      → Answered at m z x (orderRules b list) (orderCheck b m list) → record { answer = x; area = exit } ≡ topoIsNodeConvex b a list
   unfolding topoIsNodeConvex call
   order-answered ready cleared list asked =
       answered-call known ready asked cleared (orderRules b list) (orderCheck b a list) (same-outcomes-so known ready .orderCheck list)
@@ -44,16 +45,16 @@ module _ {b a : List ℕ} {o : Opened} {m : List ℕ} (known : OpenLeft b a o m)
   unfolding topoIsConvex ruling
   order-ports-refused out x e list inputs outputs = refused-call known out (refusedBy x) e _ _
 
-  module _ {n l p : ℕ} (ready : o ≡ Ready n l p) {z exit : List ℕ} (cleared : exit ≡ scratchZeroed z n l p) (list inputs outputs : List ℕ) where
+  module _ {at : Layout} (ready : o ≡ Ready at) {z exit : List ℕ} (cleared : exit ≡ scratchZeroed z at) (list inputs outputs : List ℕ) where
     pub line-ports-answered : {x : Answer (Reply × ℕ)}
-        → Answered n l p m z x (lineRules b list ++ portRules b inputs outputs) (cond (conflict b inputs outputs) (No, 0) (lineCheck b m list))
+        → Answered at m z x (lineRules b list ++ portRules b inputs outputs) (cond (conflict b inputs outputs) (No, 0) (lineCheck b m list))
         → record { answer = x; area = exit } ≡ isConvex b a list inputs outputs
     unfolding isConvex call
     line-ports-answered asked =
         answered-call known ready asked cleared _ _ (same-outcomes-so known ready .lineCheckWithPorts list inputs outputs)
 
     pub order-ports-answered : {x : Answer Reply}
-        → Answered n l p m z x (orderRules b list ++ portRules b inputs outputs) (cond (conflict b inputs outputs) No (orderCheck b m list))
+        → Answered at m z x (orderRules b list ++ portRules b inputs outputs) (cond (conflict b inputs outputs) No (orderCheck b m list))
         → record { answer = x; area = exit } ≡ topoIsConvex b a list inputs outputs
     unfolding topoIsConvex call
     order-ports-answered asked =

@@ -1,16 +1,16 @@
--- `recorded::map_line::prepares_to` meets its contract: the rest behind the map's fields is held against what preparing answers.
--- Rests on Asked.
+-- `record_questions::prepares_to` meets its contract: the rest behind the map's fields is held against what preparing answers.
+-- Rests on recorded's Asked.
 use borrow.Author.Needs.{needs}
 use native.Mathlib.Omega.{arith}
 use Prim.Native.Nat.{ℕ, _+_, _*_}
 use mathlib.Core.Path.{_≡_, ap}
 use mathlib.Core.List.{List}
 use lib.ListN.{getD}
 use Rattle.recorded.specs.Answers.{countWords}
 use Rattle.recorded.specs.Questions.{samePrepared}
 use Rattle.recorded.proofs.Asked.{no-count, asked, not-true}
-use Rattle.recorded.proofs.map_line.prepares_to.Statement.{statement}
-use Rattle.recorded.proofs.map_line.prepares_to.Tie as tie
+use Rattle.record_questions.proofs.prepares_to.Statement.{statement}
+use Rattle.record_questions.proofs.prepares_to.Tie as tie
 
 -- where the answer stands
 abbrev answerAt : List ℕ → ℕ

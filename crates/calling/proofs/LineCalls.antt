@@ -1,20 +1,19 @@
 -- Each call of the line checker from its opening: a refusal passed up, or what the question answered on the opened area.
--- Rests on Calling.
-use Prim.Native.Nat.{ℕ, _+_, _≤_, _<_}
+-- Rests on Calling and opening's Using.
+use Prim.Native.Nat.{ℕ, _≤_, _<_}
 use native.Mathlib.Omega.{arith}
-use mathlib.Core.Path.{_≡_, refl, sym, ap, ap₂, _∙_}
+use mathlib.Core.Path.{_≡_, sym, ap, ap₂, _∙_}
 use mathlib.Core.Logic.{_≢_}
 use mathlib.Core.Bool.{Bool}
-use mathlib.Core.List.{List, [], _∷_, _++_}
+use mathlib.Core.List.{List, [], _∷_}
 use borrow.Author.Tests.{le-leb, lt-leb}
 use lib.ListN.{length}
-use lib.Seq.{slice}
 use Rattle.lists.specs.Found.{placed}
-use Rattle.paper.specs.Map.{N, L, P}
+use Rattle.paper.specs.Map.{P}
 use Rattle.paper.specs.Intervals.{Reply, intervals}
 use Rattle.paper.specs.Walk.{walk, lineCheck}
 use Rattle.paper.specs.Records.{recordsIn, extend, nodesIn}
-use Rattle.paper.specs.Ports.{firstLine, lineCountAt, viewStart}
+use Rattle.paper.specs.Ports.{firstLine, lineCountAt}
 use Rattle.paper.specs.Refusals.{
   Ruling,
   passed,
@@ -35,21 +34,18 @@ use Rattle.paper.specs.Refusals.{
   rule14,
   wholeRecords,
 }
-use Rattle.paper.specs.Calls.{Written, call, callInto, lineRules, said, wordsOf, needed, isNodeConvex, isConvexByIntervals, getIntervalsFromNodes, tryExtendIntervals, nodesInIntervals, portRule, linesAtPort, viewAt, partAt, viewOfPort, opening, areaAfter}
+use Rattle.paper.specs.Calls.{Written, call, callInto, lineRules, said, wordsOf, needed, isNodeConvex, isConvexByIntervals, getIntervalsFromNodes, tryExtendIntervals, nodesInIntervals, portRule, linesAtPort}
 use Rattle.refusals.specs.Said.{ruled, ruling, refusedBy}
 use Rattle.refusals.specs.declared.Refusal.{Refusal}
 use Rattle.opening.specs.Opened.{OpenLeft, openedSaid, scratchZeroed}
 use Rattle.opening.specs.declared.Opened.{Opened}
 use Rattle.opening.specs.declared.Opened.the-variants.{Ready}
-use Rattle.refusals.proofs.Rulings.{then-decides}
-use Rattle.tables.specs.AnsweredBy.{Answered, AnsweredInto}
-use Rattle.tables.specs.UsableBy.{Usable}
-use Rattle.convex.proofs.Calling.{
-  refuses,
+use Rattle.opening.proofs.Using.{usable-before}
+use Rattle.tables.specs.declared.Layout.{Layout}
+use Rattle.tables.specs.Answered.{Answered, AnsweredInto}
+use Rattle.calling.proofs.Calling.{
   refused-call,
   refused-into,
-  all-passed,
-  usable-before,
   answered-call,
   answered-into,
   answered-still,
@@ -86,21 +82,21 @@ module _ {b a : List ℕ} {o : Opened} {m : List ℕ} (known : OpenLeft b a o m)
 
 -- ---- an answer on the opened area
 
-module _ {b a : List ℕ} {o : Opened} {m : List ℕ} (known : OpenLeft b a o m) {n l p : ℕ} (ready : o ≡ Ready n l p) {z exit : List ℕ}
-    (cleared : exit ≡ scratchZeroed z n l p) where
-  pub line-answered : {x : Answer (Reply × ℕ)} (list : List ℕ) → Answered n l p m z x (lineRules b list) (lineCheck b m list)
+module _ {b a : List ℕ} {o : Opened} {m : List ℕ} (known : OpenLeft b a o m) {at : Layout} (ready : o ≡ Ready at) {z exit : List ℕ}
+    (cleared : exit ≡ scratchZeroed z at) where
+  pub line-answered : {x : Answer (Reply × ℕ)} (list : List ℕ) → Answered at m z x (lineRules b list) (lineCheck b m list)
       → record { answer = x; area = exit } ≡ isNodeConvex b a list
   unfolding isNodeConvex call
   line-answered list asked = answered-call known ready asked cleared (lineRules b list) (lineCheck b a list) (same-outcomes-so known ready .lineCheck list)
 
   pub by-records-answered : {x : Answer (Reply × ℕ)} (words : List ℕ) (k : ℕ)
-      → Answered n l p m z x (rule8 k ∷ rule12 b m words k ∷ rule13 b m (recordsIn words k) ∷ []) (walk b m (recordsIn words k))
+      → Answered at m z x (rule8 k ∷ rule12 b m words k ∷ rule13 b m (recordsIn words k) ∷ []) (walk b m (recordsIn words k))
       → record { answer = x; area = exit } ≡ isConvexByIntervals b a words k
   unfolding isConvexByIntervals call
   by-records-answered words k asked = answered-call known ready asked cleared _ _ (same-outcomes-so known ready .checkByRecords words k)
 
   pub intervals-answered : {x : Answer Written} (list : List ℕ) {buffer after : List ℕ}
-      → AnsweredInto n l p m z x (rule9 b list ∷ rule10 list ∷ rule11 (wholeRecords buffer) (needed (intervals b m list)) ∷ []) (said (intervals b m list))
+      → AnsweredInto at m z x (rule9 b list ∷ rule10 list ∷ rule11 (wholeRecords buffer) (needed (intervals b m list)) ∷ []) (said (intervals b m list))
       buffer
       after
       (wordsOf (intervals b m list))
@@ -109,7 +105,7 @@ module _ {b a : List ℕ} {o : Opened} {m : List ℕ} (known : OpenLeft b a o m)
   intervals-answered list {buffer} asked = answered-into known ready asked cleared _ _ (wordsOf (intervals b a list)) (same-outcomes-so known ready .intervals list buffer)
 
   pub extend-answered : {x : Answer Written} {words after : List ℕ} (k v : ℕ)
-      → AnsweredInto n l p m z x
+      → AnsweredInto at m z x
       (rule9 b (v ∷ []) ∷ rule12 b m words k ∷ rule13 b m (recordsIn words k)
       ∷ rule11 (wholeRecords words) (needed (extend b m (recordsIn words k) v))
       ∷ [])
@@ -119,7 +115,7 @@ module _ {b a : List ℕ} {o : Opened} {m : List ℕ} (known : OpenLeft b a o m)
   extend-answered {words = words} k v asked = answered-into known ready asked cleared _ _ (wordsOf (extend b a (recordsIn words k) v)) (same-outcomes-so known ready .extending words k v)
 
   pub nodes-answered : {x : Answer ℕ} (words : List ℕ) (k : ℕ) {buffer after : List ℕ}
-      → AnsweredInto n l p m z x
+      → AnsweredInto at m z x
       (rule12 b m words k ∷ rule13 b m (recordsIn words k) ∷ rule11 (length buffer) (length (nodesIn b m (recordsIn words k))) ∷ [])
       (length (nodesIn b m (recordsIn words k))) buffer after (nodesIn b m (recordsIn words k))
       → record { answer = x; area = exit; buffer = after } ≡ nodesInIntervals b a words k buffer
@@ -137,14 +133,14 @@ module _ (b : List ℕ) {p : ℕ} (ports : P b ≡ p) (q : ℕ) where
   unfolding rule14 refuse earliest
   known-port h = ap (λ (t : Bool). refuse 14 (placed t 0)) (sym (lt-leb (P b) q (omega (arith, ports))))
 
-module _ {b a : List ℕ} {o : Opened} {m : List ℕ} (known : OpenLeft b a o m) {n l p : ℕ} (ready : o ≡ Ready n l p) (q : ℕ) where
-  pub port-unknown : p ≤ q → record { answer = refused 14 0; area = m } ≡ linesAtPort b a q
+module _ {b a : List ℕ} {o : Opened} {m : List ℕ} (known : OpenLeft b a o m) {at : Layout} (ready : o ≡ Ready at) (q : ℕ) where
+  pub port-unknown : at .sizes .ports ≤ q → record { answer = refused 14 0; area = m } ≡ linesAtPort b a q
   unfolding linesAtPort answer decide
   port-unknown h =
       answered-still known ready (portRule b q) (firstLine b q, lineCountAt b q)
       (ap (λ (u : Ruling). answer (decide (u ∷ [])) (firstLine b q, lineCountAt b q)) (unknown-port b (usable-before known ready .read .ports) q h))
 
-  pub port-answered : q < p → {first count : ℕ} → first ≡ firstLine b q → count ≡ lineCountAt b q
+  pub port-answered : q < at .sizes .ports → {first count : ℕ} → first ≡ firstLine b q → count ≡ lineCountAt b q
       → record { answer = answered (first, count); area = m } ≡ linesAtPort b a q
   unfolding linesAtPort answer decide
   port-answered h e f =
@@ -152,50 +148,3 @@ module _ {b a : List ℕ} {o : Opened} {m : List ℕ} (known : OpenLeft b a o m)
       ap₂ (λ (x y : ℕ). answered (x, y)) e f
       ∙ ap (λ (u : Ruling). answer (decide (u ∷ [])) (firstLine b q, lineCountAt b q)) (known-port b (usable-before known ready .read .ports) q h)
       )
-
--- the view of a port's lines: nothing is written, so the area is what a call leaves of itself
-module _ (b a : List ℕ) (o : Opened) (said : openedSaid o ≡ answer (decide (opening b a)) (N b, L b, P b)) (q : ℕ) where
-  opened : OpenLeft b a o (areaAfter b a)
-  opened = record { said = said; left = refl }
-
-  -- which part of the area it is: one of no words on a refusal
-  pub view-refused : ruling (openedSaid o) ≢ passed → partAt (viewAt b a q) ≡ (0, 0)
-  unfolding viewAt partAt answer
-  view-refused out = nothing (decide (opening b a ++ portRule b q)) (refuses opened out (portRule b q))
-    where
-      nothing : (u : Ruling) → u ≢ passed → partAt (answer u (viewStart b a q, lineCountAt b q)) ≡ (0, 0)
-      nothing passed ne = absurd (ne refl)
-      nothing (refusal i v) ne = refl
-
-  module _ {n l p : ℕ} (ready : o ≡ Ready n l p) where
-    pub view-usable : Usable b a n l p
-    view-usable = usable-before opened ready
-
-    then-port : decide (opening b a ++ portRule b q) ≡ rule14 b (q ∷ [])
-    unfolding decide
-    then-port = then-decides (opening b a) (portRule b q) (all-passed opened ready) ∙ alone (rule14 b (q ∷ []))
-      where
-        alone : (u : Ruling) → decide (u ∷ []) ≡ u
-        alone passed = refl
-        alone (refusal i v) = refl
-
-    pub view-unknown : p ≤ q → partAt (viewAt b a q) ≡ (0, 0)
-    unfolding viewAt partAt answer
-    view-unknown h =
-        ap (λ (u : Ruling). partAt (answer u (viewStart b a q, lineCountAt b q)))
-        (then-port ∙ sym (unknown-port b (view-usable .read .ports) q h))
-
-    pub view-answered : q < p → partAt (viewAt b a q) ≡ (viewStart b a q, lineCountAt b q)
-    unfolding viewAt partAt answer
-    view-answered h =
-        ap (λ (u : Ruling). partAt (answer u (viewStart b a q, lineCountAt b q)))
-        (then-port ∙ sym (known-port b (view-usable .read .ports) q h))
-
--- .. so its words and its place are known
-module _ (b a : List ℕ) (q : ℕ) {f c : ℕ} (is : partAt (viewAt b a q) ≡ (f, c)) where
-  pub view-words : slice f (f + c) a ≡ viewOfPort b a q
-  unfolding viewOfPort
-  view-words = sym (ap (λ (part : ℕ × ℕ). slice (part .0) (part .0 + part .1) a) is)
-
-  pub view-place : partAt (viewAt b a q) .0 ≡ f
-  view-place = ap (λ (part : ℕ × ℕ). part .0) is
