@@ -28,12 +28,7 @@ use take_in::take_in_bytes;
 use words::bytes::put_words;
 
 // The line check of a list in bytes: refusals 8, 9, 10, then as `check_list`.
-pub fn check_list_bytes(
-    b: &[u8],
-    at: Layout,
-    area: &mut [u16],
-    list: &[u8],
-) -> LineAnswer
+pub fn check_list_bytes(b: &[u8], at: Layout, area: &mut [u16], list: &[u8]) -> LineAnswer
     requires { ⌜ Usable (now b) (now area) at ⌝ }
     ensures { λ r. ⌜ Answered at (now (area .entry)) (now (area .exit)) (lineSaid r)
         (lineRules (now (b .entry)) (wordsFrom (now (list .entry))))
@@ -43,7 +38,14 @@ pub fn check_list_bytes(
     let Taken::Nodes(count) = taken else {
         return LineAnswer::Refused(list_refusal(taken));
     };
-    check_listed(b, at.sizes.nodes, at.sizes.links, at.sizes.ports, area, count)
+    check_listed(
+        b,
+        at.sizes.nodes,
+        at.sizes.links,
+        at.sizes.ports,
+        area,
+        count,
+    )
 }
 
 // So many records as there is room for here, which is one for each line of the largest map.
@@ -75,7 +77,15 @@ fn write_intervals_bytes(
 {
     let whole = few_records(buffer.len() / 2 / 3);
     let mut room = record_room();
-    let written = write_intervals(b, at.sizes.nodes, at.sizes.links, at.sizes.ports, area, count, &mut room[0..3 * whole]);
+    let written = write_intervals(
+        b,
+        at.sizes.nodes,
+        at.sizes.links,
+        at.sizes.ports,
+        area,
+        count,
+        &mut room[0..3 * whole],
+    );
     let IntervalsAnswer::Records(made) = written else {
         return written;
     };
@@ -107,7 +117,15 @@ pub fn intervals_of_list_bytes(
     let Taken::Nodes(count) = taken else {
         return IntervalsAnswer::Refused(list_refusal(taken));
     };
-    write_intervals_bytes(b, at.sizes.nodes, at.sizes.links, at.sizes.ports, area, count, buffer)
+    write_intervals_bytes(
+        b,
+        at.sizes.nodes,
+        at.sizes.links,
+        at.sizes.ports,
+        area,
+        count,
+        buffer,
+    )
 }
 
 // Room for the longest path of the largest map: no node stands in it twice, unless its start is its end.
@@ -145,7 +163,15 @@ fn show_listed_bytes(
 {
     let whole = few_steps(buffer.len() / 2);
     let mut room = path_room();
-    let shown = show_listed(b, at.sizes.nodes, at.sizes.links, at.sizes.ports, area, count, &mut room[0..whole]);
+    let shown = show_listed(
+        b,
+        at.sizes.nodes,
+        at.sizes.links,
+        at.sizes.ports,
+        area,
+        count,
+        &mut room[0..whole],
+    );
     let PathAnswer::Path(steps) = shown else {
         return shown;
     };
@@ -173,5 +199,13 @@ pub fn show_path_of_list_bytes(
     let Taken::Nodes(count) = taken else {
         return PathAnswer::Refused(list_refusal(taken));
     };
-    show_listed_bytes(b, at.sizes.nodes, at.sizes.links, at.sizes.ports, area, count, buffer)
+    show_listed_bytes(
+        b,
+        at.sizes.nodes,
+        at.sizes.links,
+        at.sizes.ports,
+        area,
+        count,
+        buffer,
+    )
 }

@@ -36,7 +36,16 @@ pub fn check_list_with_ports_bytes(
 {
     let checked = check_list_bytes(b, at, area, list);
     let LineAnswer::Refused(_) = checked else {
-        let found = check_ports_bytes(b, at.sizes.nodes, at.sizes.links, at.sizes.ports, area, at.scratch, inputs, outputs);
+        let found = check_ports_bytes(
+            b,
+            at.sizes.nodes,
+            at.sizes.links,
+            at.sizes.ports,
+            area,
+            at.scratch,
+            inputs,
+            outputs,
+        );
         return line_after_ports(found, checked);
     };
     checked
@@ -58,9 +67,25 @@ pub fn check_order_with_ports_bytes(
         (cond (conflict (now (b .entry)) (wordsFrom (now (inputs .entry))) (wordsFrom (now (outputs .entry)))) Reply.No
         (orderCheck (now (b .entry)) (now (area .entry)) (wordsFrom (now (list .entry))))) ⌝ }
 {
-    let checked = check_order_bytes(b, at.sizes.nodes, at.sizes.links, at.sizes.ports, area, list);
+    let checked = check_order_bytes(
+        b,
+        at.sizes.nodes,
+        at.sizes.links,
+        at.sizes.ports,
+        area,
+        list,
+    );
     let TopoAnswer::Refused(_) = checked else {
-        let found = check_ports_bytes(b, at.sizes.nodes, at.sizes.links, at.sizes.ports, area, at.scratch, inputs, outputs);
+        let found = check_ports_bytes(
+            b,
+            at.sizes.nodes,
+            at.sizes.links,
+            at.sizes.ports,
+            area,
+            at.scratch,
+            inputs,
+            outputs,
+        );
         return order_after_ports(found, checked);
     };
     checked

@@ -82,7 +82,15 @@ pub fn check_by_records_bytes(
     }
     let mut room = wide_room();
     let read = read_records(records, count, &mut room);
-    check_by_records(b, at.sizes.nodes, at.sizes.links, at.sizes.ports, area, &room, read)
+    check_by_records(
+        b,
+        at.sizes.nodes,
+        at.sizes.links,
+        at.sizes.ports,
+        area,
+        &room,
+        read,
+    )
 }
 
 // Extends records in bytes by a node, in their own buffer: refusals 9, 12, 13, then 11.
@@ -114,7 +122,16 @@ pub fn extend_records_bytes(
     let mut room = wide_room();
     let read = read_records(records, count, &mut room);
     let fit = at_most(whole, 2561);
-    let extended = extend_records(b, at.sizes.nodes, at.sizes.links, at.sizes.ports, area, &mut room[0..3 * fit], read, node);
+    let extended = extend_records(
+        b,
+        at.sizes.nodes,
+        at.sizes.links,
+        at.sizes.ports,
+        area,
+        &mut room[0..3 * fit],
+        read,
+        node,
+    );
     let ExtendAnswer::Records(made) = extended else {
         return extended;
     };
@@ -149,7 +166,16 @@ pub fn nodes_of_records_bytes(
     let read = read_records(records, count, &mut room);
     let mut nodes = node_words();
     let fit = at_most(buffer.len() / 2, 512);
-    let found = nodes_of_records(b, at.sizes.nodes, at.sizes.links, at.sizes.ports, area, &room, read, &mut nodes[0..fit]);
+    let found = nodes_of_records(
+        b,
+        at.sizes.nodes,
+        at.sizes.links,
+        at.sizes.ports,
+        area,
+        &room,
+        read,
+        &mut nodes[0..fit],
+    );
     let NodesAnswer::Nodes(made) = found else {
         return found;
     };

@@ -43,7 +43,17 @@ fn write_extended(
         (wordsOf (extended (now (b .entry)) (now (area .entry)) (recordsIn (now (records .entry)) count) node)) ⌝ }
 {
     let mut room = record_room();
-    let found = extend(b, at.sizes.nodes, at.sizes.links, at.sizes.ports, area, records, count, node, &mut room);
+    let found = extend(
+        b,
+        at.sizes.nodes,
+        at.sizes.links,
+        at.sizes.ports,
+        area,
+        records,
+        count,
+        node,
+        &mut room,
+    );
     let Extended::Records(made) = found else {
         return ExtendAnswer::NotExtendable;
     };
@@ -76,7 +86,15 @@ pub fn extend_records(
     if at.sizes.nodes <= node {
         return ExtendAnswer::Refused(Refusal::Unknown(0));
     }
-    let checked = check_records(b, at.sizes.nodes, at.sizes.links, at.sizes.ports, area, records, count);
+    let checked = check_records(
+        b,
+        at.sizes.nodes,
+        at.sizes.links,
+        at.sizes.ports,
+        area,
+        records,
+        count,
+    );
     let Checked::Good = checked else {
         return ExtendAnswer::Refused(record_refusal(checked));
     };

@@ -40,19 +40,22 @@ fn walk_answer(walked: Walked) -> LineAnswer
 
 // The line check of a list that was taken in, whose `count` nodes stand in the scratch: no with count 0 when it is not contiguous; else the
 // queue walk.
-pub fn check_listed(
-    b: &[u8],
-    at: Layout,
-    area: &mut [u16],
-    count: usize,
-) -> LineAnswer
+pub fn check_listed(b: &[u8], at: Layout, area: &mut [u16], count: usize) -> LineAnswer
     requires { ⌜ Usable (now b) (now area) at ⌝ }
     requires { ⌜ Listed (now area) (scratchAt (at .sizes .nodes) (at .sizes .links)) count (at .sizes .nodes) ⌝ }
     ensures { λ r. ⌜ Answered at (now (area .entry)) (now (area .exit)) (lineSaid r) []
         (lineCheck (now (b .entry)) (now (area .entry)) (listIn (now (area .entry)) (at .sizes .nodes) (at .sizes .links) count)) ⌝ }
 {
     let mut room = record_room();
-    let found = get_intervals(b, at.sizes.nodes, at.sizes.links, at.sizes.ports, area, count, &mut room);
+    let found = get_intervals(
+        b,
+        at.sizes.nodes,
+        at.sizes.links,
+        at.sizes.ports,
+        area,
+        count,
+        &mut room,
+    );
     let Intervals::Records(made) = found else {
         return LineAnswer::No(0);
     };
@@ -61,12 +64,7 @@ pub fn check_listed(
 }
 
 // The line check of a list: refusals 8, 9, 10, then the check of its nodes.
-pub fn check_list(
-    b: &[u8],
-    at: Layout,
-    area: &mut [u16],
-    list: &[u16],
-) -> LineAnswer
+pub fn check_list(b: &[u8], at: Layout, area: &mut [u16], list: &[u16]) -> LineAnswer
     requires { ⌜ Usable (now b) (now area) at ⌝ }
     ensures { λ r. ⌜ Answered at (now (area .entry)) (now (area .exit)) (lineSaid r)
         (lineRules (now (b .entry)) (now (list .entry))) (lineCheck (now (b .entry)) (now (area .entry)) (now (list .entry))) ⌝ }
@@ -95,7 +93,15 @@ pub fn check_by_records(
     if count == 0 {
         return LineAnswer::Refused(Refusal::Empty);
     }
-    let checked = check_records(b, at.sizes.nodes, at.sizes.links, at.sizes.ports, area, records, count);
+    let checked = check_records(
+        b,
+        at.sizes.nodes,
+        at.sizes.links,
+        at.sizes.ports,
+        area,
+        records,
+        count,
+    );
     let Checked::Good = checked else {
         return LineAnswer::Refused(record_refusal(checked));
     };

@@ -39,7 +39,15 @@ pub fn write_intervals(
         (wordsOf (intervals (now (b .entry)) (now (area .entry)) (listIn (now (area .entry)) (at .sizes .nodes) (at .sizes .links) count))) ⌝ }
 {
     let mut room = record_room();
-    let found = get_intervals(b, at.sizes.nodes, at.sizes.links, at.sizes.ports, area, count, &mut room);
+    let found = get_intervals(
+        b,
+        at.sizes.nodes,
+        at.sizes.links,
+        at.sizes.ports,
+        area,
+        count,
+        &mut room,
+    );
     let Intervals::Records(made) = found else {
         return IntervalsAnswer::NotContiguous;
     };

@@ -40,7 +40,16 @@ fn write_nodes(
         (nodesIn (now (b .entry)) (now (area .entry)) (recordsIn (now (records .entry)) count)) ⌝ }
 {
     let mut room = node_room();
-    let found = nodes_in(b, at.sizes.nodes, at.sizes.links, at.sizes.ports, area, records, count, &mut room);
+    let found = nodes_in(
+        b,
+        at.sizes.nodes,
+        at.sizes.links,
+        at.sizes.ports,
+        area,
+        records,
+        count,
+        &mut room,
+    );
     if buffer.len() < found {
         return NodesAnswer::Refused(Refusal::TooLong(found));
     }
@@ -66,7 +75,15 @@ pub fn nodes_of_records(
         (now (buffer .entry)) (now (buffer .exit))
         (nodesIn (now (b .entry)) (now (area .entry)) (recordsIn (now (records .entry)) count)) ⌝ }
 {
-    let checked = check_records(b, at.sizes.nodes, at.sizes.links, at.sizes.ports, area, records, count);
+    let checked = check_records(
+        b,
+        at.sizes.nodes,
+        at.sizes.links,
+        at.sizes.ports,
+        area,
+        records,
+        count,
+    );
     let Checked::Good = checked else {
         return NodesAnswer::Refused(record_refusal(checked));
     };
