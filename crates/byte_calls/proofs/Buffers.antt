@@ -8,7 +8,8 @@ use Rattle.paper.specs.Refusals.{Ruling, Answer, decide, onRefusal}
 use Rattle.paper.specs.Calls.{LeftWith}
 use Rattle.paper.specs.Words.{wordsFrom, putWords}
 use Rattle.words.proofs.RoundTrip.{Below, read-and-put}
-use Rattle.tables.specs.AnsweredBy.{AnsweredInto, AnsweredBytes}
+use Rattle.tables.specs.declared.Layout.{Layout}
+use Rattle.tables.specs.Answered.{AnsweredInto, AnsweredBytes}
 use Rattle.byte_calls.specs.Buffered.{buffered}
 
 module _ {A : Type 0} {said : Answer A} where
@@ -25,9 +26,9 @@ module _ {A : Type 0} {said : Answer A} where
   refused-bytes bytes below = put-back bytes (sym (read-and-put bytes below))
 
   -- a question on bytes is the same question on their words
-  pub answered-bytes : {n l p : ℕ} {a z : List ℕ} {rules : List Ruling} {x : A} {bytes after result m : List ℕ} {left : LeftWith A}
-      → AnsweredBytes n l p a z said rules x bytes after result
-      → (AnsweredInto n l p a z said rules x (wordsFrom bytes) (onRefusal (decide rules) (wordsFrom bytes) (sets (wordsFrom bytes) 0 result)) result
+  pub answered-bytes : {at : Layout} {a z : List ℕ} {rules : List Ruling} {x : A} {bytes after result m : List ℕ} {left : LeftWith A}
+      → AnsweredBytes at a z said rules x bytes after result
+      → (AnsweredInto at a z said rules x (wordsFrom bytes) (onRefusal (decide rules) (wordsFrom bytes) (sets (wordsFrom bytes) 0 result)) result
       → record { answer = said; area = m; buffer = onRefusal (decide rules) (wordsFrom bytes) (sets (wordsFrom bytes) 0 result) } ≡ left)
       → record { answer = said; area = m; buffer = after } ≡ buffered bytes left
   answered-bytes {bytes = bytes} asked same =

@@ -38,16 +38,11 @@ pub fn is_node_convex(map: &[u8], area: &mut [u16], list: &[u8]) -> LineAnswer
         ≡ isNodeConvex (now (map .entry)) (now (area .entry)) (wordsFrom (now (list .entry))) ⌝ }
 {
     let opened = open(map, area);
-    let Opened::Ready {
-        nodes,
-        links,
-        ports,
-    } = opened
-    else {
+    let Opened::Ready(at) = opened else {
         return LineAnswer::Refused(refusal(opened));
     };
-    let checked = check_list_bytes(map, nodes, links, ports, area, list);
-    clear_scratch(area, nodes, links, ports);
+    let checked = check_list_bytes(map, at, area, list);
+    clear_scratch(area, at);
     checked
 }
 
@@ -63,16 +58,11 @@ pub fn is_convex(
         ≡ isConvex (now (map .entry)) (now (area .entry)) (wordsFrom (now (list .entry))) (wordsFrom (now (inputs .entry))) (wordsFrom (now (outputs .entry))) ⌝ }
 {
     let opened = open(map, area);
-    let Opened::Ready {
-        nodes,
-        links,
-        ports,
-    } = opened
-    else {
+    let Opened::Ready(at) = opened else {
         return LineAnswer::Refused(refusal(opened));
     };
-    let ported = check_list_with_ports_bytes(map, nodes, links, ports, area, list, inputs, outputs);
-    clear_scratch(area, nodes, links, ports);
+    let ported = check_list_with_ports_bytes(map, at, area, list, inputs, outputs);
+    clear_scratch(area, at);
     ported
 }
 
@@ -87,16 +77,11 @@ pub fn is_convex_by_intervals(
         ≡ isConvexByIntervals (now (map .entry)) (now (area .entry)) (wordsFrom (now (records .entry))) count ⌝ }
 {
     let opened = open(map, area);
-    let Opened::Ready {
-        nodes,
-        links,
-        ports,
-    } = opened
-    else {
+    let Opened::Ready(at) = opened else {
         return LineAnswer::Refused(refusal(opened));
     };
-    let recorded = check_by_records_bytes(map, nodes, links, ports, area, records, count);
-    clear_scratch(area, nodes, links, ports);
+    let recorded = check_by_records_bytes(map, at, area, records, count);
+    clear_scratch(area, at);
     recorded
 }
 
@@ -111,16 +96,11 @@ pub fn get_intervals_from_nodes(
         ≡ buffered (now (buffer .entry)) (getIntervalsFromNodes (now (map .entry)) (now (area .entry)) (wordsFrom (now (list .entry))) (wordsFrom (now (buffer .entry)))) ⌝ }
 {
     let opened = open(map, area);
-    let Opened::Ready {
-        nodes,
-        links,
-        ports,
-    } = opened
-    else {
+    let Opened::Ready(at) = opened else {
         return IntervalsAnswer::Refused(refusal(opened));
     };
-    let written = intervals_of_list_bytes(map, nodes, links, ports, area, list, buffer);
-    clear_scratch(area, nodes, links, ports);
+    let written = intervals_of_list_bytes(map, at, area, list, buffer);
+    clear_scratch(area, at);
     written
 }
 
@@ -136,16 +116,11 @@ pub fn try_extend_intervals(
         ≡ buffered (now (records .entry)) (tryExtendIntervals (now (map .entry)) (now (area .entry)) (wordsFrom (now (records .entry))) count node) ⌝ }
 {
     let opened = open(map, area);
-    let Opened::Ready {
-        nodes,
-        links,
-        ports,
-    } = opened
-    else {
+    let Opened::Ready(at) = opened else {
         return ExtendAnswer::Refused(refusal(opened));
     };
-    let extended = extend_records_bytes(map, nodes, links, ports, area, records, count, node);
-    clear_scratch(area, nodes, links, ports);
+    let extended = extend_records_bytes(map, at, area, records, count, node);
+    clear_scratch(area, at);
     extended
 }
 
@@ -161,16 +136,11 @@ pub fn nodes_in_intervals(
         ≡ buffered (now (buffer .entry)) (nodesInIntervals (now (map .entry)) (now (area .entry)) (wordsFrom (now (records .entry))) count (wordsFrom (now (buffer .entry)))) ⌝ }
 {
     let opened = open(map, area);
-    let Opened::Ready {
-        nodes,
-        links,
-        ports,
-    } = opened
-    else {
+    let Opened::Ready(at) = opened else {
         return NodesAnswer::Refused(refusal(opened));
     };
-    let found = nodes_of_records_bytes(map, nodes, links, ports, area, records, count, buffer);
-    clear_scratch(area, nodes, links, ports);
+    let found = nodes_of_records_bytes(map, at, area, records, count, buffer);
+    clear_scratch(area, at);
     found
 }
 
@@ -179,18 +149,13 @@ pub fn view_at_port(map: &[u8], area: &[u16], port: usize) -> PortLines
     ensures { λ r. ⌜ portLinesSaid r ≡ viewAt (now (map .entry)) (now (area .entry)) port ⌝ }
 {
     let opened = open_shared(map, area);
-    let Opened::Ready {
-        nodes,
-        links,
-        ports,
-    } = opened
-    else {
+    let Opened::Ready(at) = opened else {
         return PortLines::Refused(refusal(opened));
     };
-    if ports <= port {
+    if at.sizes.ports <= port {
         return PortLines::Refused(Refusal::UnknownPort(0));
     }
-    let offset = view_start(map, nodes, links, ports, area, port);
-    let count = line_count(map, nodes, links, ports, port);
+    let offset = view_start(map, at, area, port);
+    let count = line_count(map, at.sizes, port);
     PortLines::At(offset, count)
 }

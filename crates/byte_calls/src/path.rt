@@ -17,15 +17,10 @@ pub fn show_path(map: &[u8], area: &mut [u16], list: &[u8], buffer: &mut [u8]) -
         ≡ buffered (now (buffer .entry)) (showPath (now (map .entry)) (now (area .entry)) (wordsFrom (now (list .entry))) (wordsFrom (now (buffer .entry)))) ⌝ }
 {
     let opened = open(map, area);
-    let Opened::Ready {
-        nodes,
-        links,
-        ports,
-    } = opened
-    else {
+    let Opened::Ready(at) = opened else {
         return PathAnswer::Refused(refusal(opened));
     };
-    let shown = show_path_of_list_bytes(map, nodes, links, ports, area, list, buffer);
-    clear_scratch(area, nodes, links, ports);
+    let shown = show_path_of_list_bytes(map, at, area, list, buffer);
+    clear_scratch(area, at);
     shown
 }

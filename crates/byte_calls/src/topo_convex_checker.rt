@@ -17,16 +17,11 @@ pub fn is_node_convex(map: &[u8], area: &mut [u16], list: &[u8]) -> TopoAnswer
         ≡ topoIsNodeConvex (now (map .entry)) (now (area .entry)) (wordsFrom (now (list .entry))) ⌝ }
 {
     let opened = open(map, area);
-    let Opened::Ready {
-        nodes,
-        links,
-        ports,
-    } = opened
-    else {
+    let Opened::Ready(at) = opened else {
         return TopoAnswer::Refused(refusal(opened));
     };
-    let ordered = check_order_bytes(map, nodes, links, ports, area, list);
-    clear_scratch(area, nodes, links, ports);
+    let ordered = check_order_bytes(map, at, area, list);
+    clear_scratch(area, at);
     ordered
 }
 
@@ -42,24 +37,10 @@ pub fn is_convex(
         ≡ topoIsConvex (now (map .entry)) (now (area .entry)) (wordsFrom (now (list .entry))) (wordsFrom (now (inputs .entry))) (wordsFrom (now (outputs .entry))) ⌝ }
 {
     let opened = open(map, area);
-    let Opened::Ready {
-        nodes,
-        links,
-        ports,
-    } = opened
-    else {
+    let Opened::Ready(at) = opened else {
         return TopoAnswer::Refused(refusal(opened));
     };
-    let ported = check_order_with_ports_bytes(
-        map,
-        nodes,
-        links,
-        ports,
-        area,
-        list,
-        inputs,
-        outputs,
-    );
-    clear_scratch(area, nodes, links, ports);
+    let ported = check_order_with_ports_bytes(map, at, area, list, inputs, outputs);
+    clear_scratch(area, at);
     ported
 }

@@ -1,11 +1,12 @@
--- The checks' answers keep demand 3's promise: each is the answer of the paper's call.
--- Rests on convexity_theory.
+-- The checks' answers keep demand 3's promise, and the path its own: each is what the paper's call leaves.
+-- Rests on convexity_theory and path_theory.
 use Prim.Native.Nat.{ℕ}
 use mathlib.Core.Path.{_≡_, sym, ap, subst}
 use mathlib.Core.List.{List}
 use Rattle.paper.specs.Intervals.{Reply}
+use Rattle.paper.specs.Path.{Shown}
 use Rattle.paper.specs.Refusals.{Answer}
-use Rattle.paper.specs.Calls.{Left, isNodeConvex, topoIsNodeConvex, isConvex, topoIsConvex}
+use Rattle.paper.specs.Calls.{Left, LeftWith, isNodeConvex, topoIsNodeConvex, isConvex, topoIsConvex, showPath}
 use Rattle.paper.specs.Promise.{
   Trusted,
   KnownSteps,
@@ -15,8 +16,10 @@ use Rattle.paper.specs.Promise.{
   OrderPromise,
   LinePortsPromise,
   OrderPortsPromise,
+  PathPromise,
 }
 use Rattle.convexity_theory.proofs.trust.Promise.{line-promise, order-promise, line-ports-promise, order-ports-promise}
+use Rattle.path_theory.proofs.Promise.{path-promise}
 
 -- the answer that a call leaves
 answers : {A : Type 0} {said : Answer A} {m : List ℕ} {left : Left A} → record { answer = said; area = m } ≡ left → left .answer ≡ said
@@ -47,3 +50,9 @@ module _ {b a list m : List ℕ} where
         → OrderPortsPromise b list inputs outputs said
     order-ports-kept e trusted known ins outs =
         subst (OrderPortsPromise b list inputs outputs) (answers e) (order-ports-promise trusted (ins, outs) known)
+
+-- what is left keeps the promise
+pub path-kept : {b a list buffer m after : List ℕ} {said : Answer Shown} → record { answer = said; area = m; buffer = after } ≡ showPath b a list buffer
+    → Trusted b a → StepList b list → PathPromise b list buffer after said
+path-kept {b} {list = list} {buffer} e trusted steps =
+    subst (λ (left : LeftWith Shown). PathPromise b list buffer (left .buffer) (left .answer)) (sym e) (path-promise trusted steps buffer)

@@ -45,16 +45,11 @@ pub fn is_node_convex(map: &[u8], area: &mut [u16], list: &[u16]) -> LineAnswer
         → LinePromise (now (map .entry)) (now (area .entry)) (now (list .entry)) (lineSaid r)) ⌝ }
 {
     let opened = open(map, area);
-    let Opened::Ready {
-        nodes,
-        links,
-        ports,
-    } = opened
-    else {
+    let Opened::Ready(at) = opened else {
         return LineAnswer::Refused(refusal(opened));
     };
-    let checked = check_list(map, nodes, links, ports, area, list);
-    clear_scratch(area, nodes, links, ports);
+    let checked = check_list(map, at, area, list);
+    clear_scratch(area, at);
     checked
 }
 
@@ -74,16 +69,11 @@ pub fn is_convex(
         → LinePortsPromise (now (map .entry)) (now (area .entry)) (now (list .entry)) (now (inputs .entry)) (now (outputs .entry)) (lineSaid r)) ⌝ }
 {
     let opened = open(map, area);
-    let Opened::Ready {
-        nodes,
-        links,
-        ports,
-    } = opened
-    else {
+    let Opened::Ready(at) = opened else {
         return LineAnswer::Refused(refusal(opened));
     };
-    let ported = check_list_with_ports(map, nodes, links, ports, area, list, inputs, outputs);
-    clear_scratch(area, nodes, links, ports);
+    let ported = check_list_with_ports(map, at, area, list, inputs, outputs);
+    clear_scratch(area, at);
     ported
 }
 
@@ -98,16 +88,11 @@ pub fn is_convex_by_intervals(
         ≡ isConvexByIntervals (now (map .entry)) (now (area .entry)) (now (records .entry)) count ⌝ }
 {
     let opened = open(map, area);
-    let Opened::Ready {
-        nodes,
-        links,
-        ports,
-    } = opened
-    else {
+    let Opened::Ready(at) = opened else {
         return LineAnswer::Refused(refusal(opened));
     };
-    let recorded = check_by_records(map, nodes, links, ports, area, records, count);
-    clear_scratch(area, nodes, links, ports);
+    let recorded = check_by_records(map, at, area, records, count);
+    clear_scratch(area, at);
     recorded
 }
 
@@ -122,16 +107,11 @@ pub fn get_intervals_from_nodes(
         ≡ getIntervalsFromNodes (now (map .entry)) (now (area .entry)) (now (list .entry)) (now (buffer .entry)) ⌝ }
 {
     let opened = open(map, area);
-    let Opened::Ready {
-        nodes,
-        links,
-        ports,
-    } = opened
-    else {
+    let Opened::Ready(at) = opened else {
         return IntervalsAnswer::Refused(refusal(opened));
     };
-    let written = intervals_of_list(map, nodes, links, ports, area, list, buffer);
-    clear_scratch(area, nodes, links, ports);
+    let written = intervals_of_list(map, at, area, list, buffer);
+    clear_scratch(area, at);
     written
 }
 
@@ -147,16 +127,11 @@ pub fn try_extend_intervals(
         ≡ tryExtendIntervals (now (map .entry)) (now (area .entry)) (now (records .entry)) count node ⌝ }
 {
     let opened = open(map, area);
-    let Opened::Ready {
-        nodes,
-        links,
-        ports,
-    } = opened
-    else {
+    let Opened::Ready(at) = opened else {
         return ExtendAnswer::Refused(refusal(opened));
     };
-    let extended = extend_records(map, nodes, links, ports, area, records, count, node);
-    clear_scratch(area, nodes, links, ports);
+    let extended = extend_records(map, at, area, records, count, node);
+    clear_scratch(area, at);
     extended
 }
 
@@ -172,16 +147,11 @@ pub fn nodes_in_intervals(
         ≡ nodesInIntervals (now (map .entry)) (now (area .entry)) (now (records .entry)) count (now (buffer .entry)) ⌝ }
 {
     let opened = open(map, area);
-    let Opened::Ready {
-        nodes,
-        links,
-        ports,
-    } = opened
-    else {
+    let Opened::Ready(at) = opened else {
         return NodesAnswer::Refused(refusal(opened));
     };
-    let found = nodes_of_records(map, nodes, links, ports, area, records, count, buffer);
-    clear_scratch(area, nodes, links, ports);
+    let found = nodes_of_records(map, at, area, records, count, buffer);
+    clear_scratch(area, at);
     found
 }
 
@@ -190,19 +160,14 @@ pub fn lines_at_port(map: &[u8], area: &mut [u16], port: usize) -> PortLines
     ensures { λ r. ⌜ record { answer = portLinesSaid r; area = now (area .exit) } ≡ linesAtPort (now (map .entry)) (now (area .entry)) port ⌝ }
 {
     let opened = open(map, area);
-    let Opened::Ready {
-        nodes,
-        links,
-        ports,
-    } = opened
-    else {
+    let Opened::Ready(at) = opened else {
         return PortLines::Refused(refusal(opened));
     };
-    if ports <= port {
+    if at.sizes.ports <= port {
         return PortLines::Refused(Refusal::UnknownPort(0));
     }
-    let first = first_line(map, nodes, links, ports, port);
-    let count = line_count(map, nodes, links, ports, port);
+    let first = first_line(map, at.sizes, port);
+    let count = line_count(map, at.sizes, port);
     PortLines::At(first, count)
 }
 
@@ -212,16 +177,11 @@ pub fn view_lines_at_port<'a>(map: &[u8], area: &'a [u16], port: usize) -> &'a [
     ensures { λ r. ⌜ StartsAt r (area .entry) (partAt (viewAt (now (map .entry)) (now (area .entry)) port) .0) ⌝ }
 {
     let opened = open_shared(map, area);
-    let Opened::Ready {
-        nodes,
-        links,
-        ports,
-    } = opened
-    else {
+    let Opened::Ready(at) = opened else {
         return &area[0..0];
     };
-    if ports <= port {
+    if at.sizes.ports <= port {
         return &area[0..0];
     }
-    view(map, nodes, links, ports, area, port)
+    view(map, at, area, port)
 }

@@ -19,15 +19,10 @@ pub fn show_path(map: &[u8], area: &mut [u16], list: &[u16], buffer: &mut [u16])
         → PathPromise (now (map .entry)) (now (list .entry)) (now (buffer .entry)) (now (buffer .exit)) (pathSaid r)) ⌝ }
 {
     let opened = open(map, area);
-    let Opened::Ready {
-        nodes,
-        links,
-        ports,
-    } = opened
-    else {
+    let Opened::Ready(at) = opened else {
         return PathAnswer::Refused(refusal(opened));
     };
-    let shown = show_path_of_list(map, nodes, links, ports, area, list, buffer);
-    clear_scratch(area, nodes, links, ports);
+    let shown = show_path_of_list(map, at, area, list, buffer);
+    clear_scratch(area, at);
     shown
 }

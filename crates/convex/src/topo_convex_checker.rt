@@ -20,16 +20,11 @@ pub fn is_node_convex(map: &[u8], area: &mut [u16], list: &[u16]) -> TopoAnswer
         → OrderPromise (now (map .entry)) (now (list .entry)) (topoSaid r)) ⌝ }
 {
     let opened = open(map, area);
-    let Opened::Ready {
-        nodes,
-        links,
-        ports,
-    } = opened
-    else {
+    let Opened::Ready(at) = opened else {
         return TopoAnswer::Refused(refusal(opened));
     };
-    let ordered = check_order(map, nodes, links, ports, area, list);
-    clear_scratch(area, nodes, links, ports);
+    let ordered = check_order(map, at, area, list);
+    clear_scratch(area, at);
     ordered
 }
 
@@ -49,15 +44,10 @@ pub fn is_convex(
         → OrderPortsPromise (now (map .entry)) (now (list .entry)) (now (inputs .entry)) (now (outputs .entry)) (topoSaid r)) ⌝ }
 {
     let opened = open(map, area);
-    let Opened::Ready {
-        nodes,
-        links,
-        ports,
-    } = opened
-    else {
+    let Opened::Ready(at) = opened else {
         return TopoAnswer::Refused(refusal(opened));
     };
-    let ported = check_order_with_ports(map, nodes, links, ports, area, list, inputs, outputs);
-    clear_scratch(area, nodes, links, ports);
+    let ported = check_order_with_ports(map, at, area, list, inputs, outputs);
+    clear_scratch(area, at);
     ported
 }

@@ -1,12 +1,14 @@
-// The questions about records, asked again: whether each answer is the recorded one.
+// Preparing and the questions about records, asked again: whether each answer is the recorded one.
 use convex::line_convex_checker::is_convex_by_intervals;
 use convex::line_convex_checker::nodes_in_intervals;
 use convex::line_convex_checker::try_extend_intervals;
+use convex::prepare::prepare;
 use line_checker::room::copy_out;
 use line_checker::room::record_room;
-use recorded::answers::is_extend_answer;
-use recorded::answers::is_line_answer;
-use recorded::answers::is_nodes_answer;
+use recorded::held::is_extend_answer;
+use recorded::held::is_line_answer;
+use recorded::held::is_nodes_answer;
+use recorded::held::is_prepared;
 use recorded::line_parts::Part;
 use recorded::line_parts::list_at;
 use words::field::wide;
@@ -15,9 +17,25 @@ ghost use mathlib.Core.Path.{_≡_};
 ghost use Prim.Native.Nat.{_≤_};
 ghost use lib.ListN.{length, drop};
 ghost use Rattle.lists.specs.Lists.{same};
-ghost use Rattle.paper.specs.Calls.{areaAfter, nodesInIntervals, tryExtendIntervals};
+ghost use Rattle.paper.specs.Calls.{areaAfter, nodesInIntervals, prepare as prepared, tryExtendIntervals};
 ghost use Rattle.recorded.specs.Answers.{countWords, withList, writtenWords};
-ghost use Rattle.recorded.specs.Questions.{sameExtension, sameNodes, sameRecordCheck};
+ghost use Rattle.recorded.specs.Questions.{sameExtension, sameNodes, samePrepared, sameRecordCheck};
+
+// Whether preparing the map answers the line's rest.
+pub fn prepares_to(map: &[u8], area: &mut [u16], words: &[u16]) -> bool
+    ensures { λ r. ⌜ r ≡ samePrepared (now (words .entry)) (now (map .entry)) (now (area .entry)) ⌝ }
+    ensures { λ r. ⌜ (r ≡ true → now (area .exit) ≡ prepared (now (map .entry)) (now (area .entry)) .area) ⌝ }
+{
+    if words.len() < 3 {
+        return false;
+    }
+    let at = 3 + 2 * wide(words[1]) + 4 * wide(words[2]);
+    if at > words.len() {
+        return false;
+    }
+    let answer = prepare(map, area);
+    is_prepared(words, at, answer)
+}
 
 // Check by records: how many, and their words; the answer.
 pub fn same_record_check(words: &[u16], map: &[u8], area: &mut [u16]) -> bool

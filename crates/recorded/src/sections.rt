@@ -1,52 +1,49 @@
 // The tables that preparing wrote, held against those of the Rust.
 use crate::comparing::is_list;
 use crate::line_parts::Part;
+use stepmap::read::Sizes;
 use stepmap::read::StepMap;
 use stepmap::read::read_map;
+use tables::Layout;
+use tables::lay_out;
 use words::field::wide;
 ghost use mathlib.Core.Path.{_≡_};
 ghost use mathlib.Core.Bool.{true};
 ghost use Prim.Native.Nat.{_≤_};
-ghost use lib.ListN.{getD};
-ghost use Rattle.paper.specs.Map.{N, L};
+ghost use Rattle.tables.specs.Placed.{Few, LaidOut};
 ghost use Rattle.recorded.specs.Parts.{Ordered};
-ghost use Rattle.recorded.specs.Sections.{IsPart, SameSection, UsedAt, usedAt};
+ghost use Rattle.recorded.specs.Sections.{IsPart, SameSection, UsedAt, usedIn};
 
-// The used part of the section with a kind's number, for n nodes, l links and k lines: of the two lists l + k entries are used, of the line starts
-// k + 1.
-fn section(kind: usize, n: usize, l: usize, k: usize) -> Part
-    requires { ⌜ (n ≤ 512) × (l ≤ 2048) × (k ≤ 65535) ⌝ }
-    ensures { λ r. ⌜ Ordered r × UsedAt r (usedAt kind n l k) ⌝ }
+// The used part of the section with a kind's number, in an area of k lines: of the two lists as many entries are used as there are links and lines,
+// of the line starts k + 1.
+fn section(kind: usize, at: Layout, k: usize) -> Part
+    requires { ⌜ Few (at .sizes) × LaidOut (at .sizes) at × (k ≤ 65535) ⌝ }
+    ensures { λ r. ⌜ Ordered r × UsedAt r (usedIn at k kind) ⌝ }
 {
-    let positions = 1 + n;
-    let node_starts = positions + n;
-    let node_lines = node_starts + n + 1;
-    let line_starts = node_lines + 2 * l + n;
-    let line_nodes = line_starts + l + n + 1;
     match kind {
         2 => Part::Words {
-            from: 1,
-            to: positions,
+            from: at.order,
+            to: at.order + at.sizes.nodes,
         },
         3 => Part::Words {
-            from: positions,
-            to: node_starts,
+            from: at.positions,
+            to: at.positions + at.sizes.nodes,
         },
         4 => Part::Words {
-            from: node_starts,
-            to: node_lines,
+            from: at.begins,
+            to: at.begins + (at.sizes.nodes + 1),
         },
         5 => Part::Words {
-            from: node_lines,
-            to: node_lines + l + k,
+            from: at.lines,
+            to: at.lines + (at.sizes.links + k),
         },
         6 => Part::Words {
-            from: line_starts,
-            to: line_starts + k + 1,
+            from: at.starts,
+            to: at.starts + (k + 1),
         },
         7 => Part::Words {
-            from: line_nodes,
-            to: line_nodes + l + k,
+            from: at.along,
+            to: at.along + (at.sizes.links + k),
         },
         _ => Part::Missing,
     }
@@ -77,7 +74,7 @@ pub fn same_section(kind: usize, words: &[u16], map: &[u8], area: &[u16]) -> boo
     let StepMap::Sized {
         nodes,
         links,
-        ports: _,
+        ports,
     } = found
     else {
         return false;
@@ -85,6 +82,11 @@ pub fn same_section(kind: usize, words: &[u16], map: &[u8], area: &[u16]) -> boo
     if area.len() == 0 {
         return false;
     }
-    let part = section(kind, nodes, links, wide(area[0]));
+    let at = lay_out(Sizes {
+        nodes: nodes,
+        links: links,
+        ports: ports,
+    });
+    let part = section(kind, at, wide(area[0]));
     is_part(area, part, words)
 }

@@ -1,8 +1,8 @@
 -- `byte_calls::line_convex_checker::get_intervals_from_nodes` meets its contract: an opening's refusal passed up, or the list's intervals are found on the opened area.
--- Rests on convex's Calling and LineCalls, and Buffers.
+-- Rests on opening's Using and calling's LineCalls, and Buffers.
 use native.Mathlib.Omega.{arith}
-use Rattle.convex.proofs.Calling.{is-refusal, usable, has-scratch}
-use Rattle.convex.proofs.LineCalls.{intervals-refused, intervals-answered}
+use Rattle.opening.proofs.Using.{is-refusal, usable, has-scratch}
+use Rattle.calling.proofs.LineCalls.{intervals-refused, intervals-answered}
 use borrow.Author.Needs.{needs}
 use Rattle.byte_calls.proofs.Buffers.{refused-bytes, answered-bytes}
 use Rattle.byte_calls.proofs.line_convex_checker.get_intervals_from_nodes.Statement.{statement}

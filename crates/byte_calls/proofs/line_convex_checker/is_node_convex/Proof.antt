@@ -1,7 +1,7 @@
 -- `byte_calls::line_convex_checker::is_node_convex` meets its contract: an opening's refusal passed up, or the list is checked on the opened area.
--- Rests on convex's Calling and LineCalls.
-use Rattle.convex.proofs.Calling.{is-refusal, usable, has-scratch}
-use Rattle.convex.proofs.LineCalls.{line-refused, line-answered}
+-- Rests on opening's Using and calling's LineCalls.
+use Rattle.opening.proofs.Using.{is-refusal, usable, has-scratch}
+use Rattle.calling.proofs.LineCalls.{line-refused, line-answered}
 use borrow.Author.Needs.{needs}
 use Rattle.byte_calls.proofs.line_convex_checker.is_node_convex.Statement.{statement}
 use Rattle.byte_calls.proofs.line_convex_checker.is_node_convex.Tie as tie

@@ -1,8 +1,8 @@
 -- `byte_calls::line_convex_checker::view_at_port` meets its contract: a refusal, or where the port's lines start in the area.
--- Rests on ViewCalls.
+-- Rests on opening's Using and calling's ViewCalls.
 use borrow.Author.Needs.{needs}
-use Rattle.convex.proofs.Calling.{is-refusal, usable-before}
-use Rattle.byte_calls.proofs.ViewCalls.{opened, view-refused, view-unknown, view-answered}
+use Rattle.opening.proofs.Using.{is-refusal, usable-before}
+use Rattle.calling.proofs.ViewCalls.{opened, view-refused, view-unknown, view-answered}
 use Rattle.byte_calls.proofs.line_convex_checker.view_at_port.Statement.{statement}
 use Rattle.byte_calls.proofs.line_convex_checker.view_at_port.Tie as tie
 
@@ -19,7 +19,7 @@ returns c =
 
 returns-2 : tie.Need-returns-2
 returns-2 c =
-    let told = c .before in
+    let told = c .before .before in
     let asked = told .before .before .before in
     let args = asked .before .before .before .args in
     let known = opened (args .map .now) (args .area .now) (asked .open-shared .result) (asked .open-shared .ensures) in
@@ -27,7 +27,7 @@ returns-2 c =
 
 view-start-requires : tie.Need-view-start-requires
 view-start-requires c κs =
-    let told = c .before in
+    let told = c .before .before in
     let asked = told .before .before .before in
     let args = asked .before .before .before .args in
     let known = opened (args .map .now) (args .area .now) (asked .open-shared .result) (asked .open-shared .ensures) in
@@ -35,7 +35,7 @@ view-start-requires c κs =
 
 line-count-requires : tie.Need-line-count-requires
 line-count-requires c κs =
-    let told = c .before .before in
+    let told = c .before .before .before in
     let asked = told .before .before .before in
     let args = asked .before .before .before .args in
     let known = opened (args .map .now) (args .area .now) (asked .open-shared .result) (asked .open-shared .ensures) in
@@ -44,7 +44,7 @@ line-count-requires c κs =
 
 returns-3 : tie.Need-returns-3
 returns-3 c =
-    let told = c .before .before .before in
+    let told = c .before .before .before .before in
     let asked = told .before .before .before in
     let args = asked .before .before .before .args in
     let known = opened (args .map .now) (args .area .now) (asked .open-shared .result) (asked .open-shared .ensures) in

@@ -1,8 +1,8 @@
 -- `byte_calls::path::show_path` meets its contract: an opening's refusal passed up, or the path is shown on the opened area.
--- Rests on convex's Calling and PathCalls, and Buffers.
+-- Rests on opening's Using and calling's PathCalls, and Buffers.
 use native.Mathlib.Omega.{arith}
-use Rattle.convex.proofs.Calling.{is-refusal, usable, has-scratch}
-use Rattle.convex.proofs.PathCalls.{path-refused, path-answered}
+use Rattle.opening.proofs.Using.{is-refusal, usable, has-scratch}
+use Rattle.calling.proofs.PathCalls.{path-refused, path-answered}
 use borrow.Author.Needs.{needs}
 use Rattle.byte_calls.proofs.Buffers.{refused-bytes, answered-bytes}
 use Rattle.byte_calls.proofs.path.show_path.Statement.{statement}

@@ -1,7 +1,7 @@
 -- `convex::line_convex_checker::get_intervals_from_nodes` meets its contract: an opening's refusal passed up, or the list's intervals are found on the opened area.
--- Rests on Calling and LineCalls.
-use Rattle.convex.proofs.Calling.{is-refusal, usable, has-scratch}
-use Rattle.convex.proofs.LineCalls.{intervals-refused, intervals-answered}
+-- Rests on opening's Using and calling's LineCalls.
+use Rattle.opening.proofs.Using.{is-refusal, usable, has-scratch}
+use Rattle.calling.proofs.LineCalls.{intervals-refused, intervals-answered}
 use borrow.Author.Needs.{needs}
 use Rattle.convex.proofs.line_convex_checker.get_intervals_from_nodes.Statement.{statement}
 use Rattle.convex.proofs.line_convex_checker.get_intervals_from_nodes.Tie as tie

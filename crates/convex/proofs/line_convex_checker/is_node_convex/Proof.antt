@@ -1,7 +1,7 @@
 -- `convex::line_convex_checker::is_node_convex` meets its contract: an opening's refusal passed up, or the list is checked on the opened area;
--- and its answer keeps demand 3's promise. Rests on Calling, LineCalls and Promises.
-use Rattle.convex.proofs.Calling.{is-refusal, usable, has-scratch}
-use Rattle.convex.proofs.LineCalls.{line-refused, line-answered}
+-- and its answer keeps demand 3's promise. Rests on opening's Using, calling's LineCalls and Promises.
+use Rattle.opening.proofs.Using.{is-refusal, usable, has-scratch}
+use Rattle.calling.proofs.LineCalls.{line-refused, line-answered}
 use Rattle.convex.proofs.Promises.{line-kept}
 use borrow.Author.Needs.{needs}
 use Rattle.convex.proofs.line_convex_checker.is_node_convex.Statement.{statement}

@@ -1,7 +1,7 @@
 -- `convex::line_convex_checker::nodes_in_intervals` meets its contract: an opening's refusal passed up, or the nodes are found on the opened area.
--- Rests on Calling and LineCalls.
-use Rattle.convex.proofs.Calling.{is-refusal, usable, has-scratch}
-use Rattle.convex.proofs.LineCalls.{nodes-refused, nodes-answered}
+-- Rests on opening's Using and calling's LineCalls.
+use Rattle.opening.proofs.Using.{is-refusal, usable, has-scratch}
+use Rattle.calling.proofs.LineCalls.{nodes-refused, nodes-answered}
 use borrow.Author.Needs.{needs}
 use Rattle.convex.proofs.line_convex_checker.nodes_in_intervals.Statement.{statement}
 use Rattle.convex.proofs.line_convex_checker.nodes_in_intervals.Tie as tie

@@ -1,8 +1,8 @@
 -- `convex::line_convex_checker::view_lines_at_port` meets its contract: a part of no words on a refusal, else the part that holds the lines; and
 -- where it starts.
--- Rests on Calling and LineCalls.
-use Rattle.convex.proofs.Calling.{is-refusal}
-use Rattle.convex.proofs.LineCalls.{view-refused, view-usable, view-unknown, view-answered, view-words, view-place}
+-- Rests on opening's Using and calling's ViewCalls.
+use Rattle.opening.proofs.Using.{is-refusal, usable-before}
+use Rattle.calling.proofs.ViewCalls.{opened, part-refused, part-unknown, part-answered, view-words, view-place}
 use native.Mathlib.Omega.{arith}
 use mathlib.Core.Path.{refl, _∙_}
 use borrow.Author.Needs.{needs}
@@ -11,51 +11,40 @@ use Rattle.convex.proofs.line_convex_checker.view_lines_at_port.Tie as 
 
 returns : tie.Need-returns
 returns c =
-    let opened = c .before .before .before in
-    let start = opened .before .before .before in
-    let said = opened .open-shared .ensures in
-    let is =
-    view-refused (start .args .map .now) (start .args .area .now) (opened .open-shared .result) said (start .args .port)
-    (is-refusal (opened .open-shared .result) (c .before .before .match .keys2))
-    in
-    let words = view-words (start .args .map .now) (start .args .area .now) (start .args .port) is in
-    let place = view-place (start .args .map .now) (start .args .area .now) (start .args .port) is in
-    (words, (refl, omega (arith, place)))
+    let asked = c .before .before .before in
+    let args = asked .before .before .before .args in
+    let known = opened (args .map .now) (args .area .now) (asked .open-shared .result) (asked .open-shared .ensures) in
+    let is = part-refused known (args .port) (is-refusal (asked .open-shared .result) (c .before .before .match .keys2)) in
+    (view-words (args .map .now) (args .area .now) (args .port) is, (refl, omega (arith, view-place (args .map .now) (args .area .now) (args .port) is)))
 
 returns-2 : tie.Need-returns-2
 returns-2 c =
-    let told = c .before .before in
-    let opened = told .before .before .before in
-    let start = opened .before .before .before in
-    let said = opened .open-shared .ensures in
-    let is =
-    view-unknown (start .args .map .now) (start .args .area .now) (opened .open-shared .result) said (start .args .port) (told .before .opened .given .1) (c .before .if1 .taken)
-    in
-    let words = view-words (start .args .map .now) (start .args .area .now) (start .args .port) is in
-    let place = view-place (start .args .map .now) (start .args .area .now) (start .args .port) is in
-    (words, (refl, omega (arith, place)))
+    let told = c .before .before .before in
+    let asked = told .before .before .before in
+    let args = asked .before .before .before .args in
+    let known = opened (args .map .now) (args .area .now) (asked .open-shared .result) (asked .open-shared .ensures) in
+    let is = part-unknown known (args .port) (told .before .opened .given .1) (c .before .if1 .taken) in
+    (view-words (args .map .now) (args .area .now) (args .port) is, (refl, omega (arith, view-place (args .map .now) (args .area .now) (args .port) is)))
 
 lines-at-port-requires : tie.Need-lines-at-port-requires
 lines-at-port-requires c κs =
-    let told = c .before in
-    let opened = told .before .before .before in
-    let start = opened .before .before .before in
-    let said = opened .open-shared .ensures in
-    (view-usable (start .args .map .now) (start .args .area .now) (opened .open-shared .result) said (start .args .port) (told .before .opened .given .1), search needs)
+    let told = c .before .before in
+    let asked = told .before .before .before in
+    let args = asked .before .before .before .args in
+    let known = opened (args .map .now) (args .area .now) (asked .open-shared .result) (asked .open-shared .ensures) in
+    (usable-before known (told .before .opened .given .1), search needs)
 
 returns-3 : tie.Need-returns-3
 returns-3 c =
-    let told = c .before .before in
-    let opened = told .before .before .before in
-    let start = opened .before .before .before in
-    let said = opened .open-shared .ensures in
-    let is =
-    view-answered (start .args .map .now) (start .args .area .now) (opened .open-shared .result) said (start .args .port) (told .before .opened .given .1) (c .before .if1 .left)
-    in
-    let part = c .lines-at-port .ensures in
-    let words = view-words (start .args .map .now) (start .args .area .now) (start .args .port) is in
-    let place = view-place (start .args .map .now) (start .args .area .now) (start .args .port) is in
-    (part .0 ∙ words, (part .1 .0, omega (arith, part .1 .1, place)))
+    let told = c .before .before .before in
+    let asked = told .before .before .before in
+    let args = asked .before .before .before .args in
+    let known = opened (args .map .now) (args .area .now) (asked .open-shared .result) (asked .open-shared .ensures) in
+    let is = part-answered known (args .port) (told .before .opened .given .1) (c .before .if1 .left) in
+    let part = c .lines-at-port .ensures in (
+      part .0 ∙ view-words (args .map .now) (args .area .now) (args .port) is,
+      (part .1 .0, omega (arith, part .1 .1, view-place (args .map .now) (args .area .now) (args .port) is)),
+    )
 
 pub view-lines-at-port-spec : {M : Type 1} → statement M
 view-lines-at-port-spec =

@@ -1,7 +1,8 @@
 -- `convex::path::show_path` meets its contract: an opening's refusal passed up, or the path is shown on the opened area; and its answer and buffer
--- keep the promise. Rests on Calling and PathCalls.
-use Rattle.convex.proofs.Calling.{is-refusal, usable, has-scratch}
-use Rattle.convex.proofs.PathCalls.{path-refused, path-answered, path-kept}
+-- keep the promise. Rests on opening's Using, calling's PathCalls and Promises.
+use Rattle.opening.proofs.Using.{is-refusal, usable, has-scratch}
+use Rattle.calling.proofs.PathCalls.{path-refused, path-answered}
+use Rattle.convex.proofs.Promises.{path-kept}
 use borrow.Author.Needs.{needs}
 use Rattle.convex.proofs.path.show_path.Statement.{statement}
 use Rattle.convex.proofs.path.show_path.Tie as tie
