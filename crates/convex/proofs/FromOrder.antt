@@ -26,7 +26,7 @@ use Rattle.toposort.proofs.Refusing.{written-over}
 use Rattle.line_tables.specs.Layout.{firstsAt, topsAt, outSortedAt}
 use Rattle.line_tables.specs.Laying.{Laying}
 
-module _ {b a m : List ℕ} {at : Layout} {links : Listing} (done : OrderLaid b (cleared b a) at links m) (cycle : rule6 b ≡ passed) where
+module _ (a : List ℕ) {b m : List ℕ} {at : Layout} {links : Listing} (done : OrderLaid b (cleared b a) at links m) (cycle : rule6 b ≡ passed) where
   abbrev n : ℕ
   n = at .sizes .nodes
 
