@@ -9,6 +9,7 @@ use lib.ListN.{length, getD}
 use Rattle.lists.specs.Lists.{times}
 use Rattle.paper.specs.Map.{linkFrom, linkTo}
 use Rattle.stepmap.specs.Formed.{HasLink}
+use Rattle.stepmap.specs.declared.read.Sizes.{Sizes}
 
 -- "The order holds each node once."
 abbrev pub EachOnce : List ℕ → Type 0
@@ -40,8 +41,8 @@ pub record PlacesKnown (order places : List ℕ) : Type 0 where
 abbrev pub atPlace : List ℕ → List ℕ → ℕ → Bool
 atPlace order places i = eqb (getD places (getD order i 0) 0) i
 
--- l links between nodes that have a place in the room
-pub record Linking (b : List ℕ) (n l : ℕ) (places : List ℕ) : Type 0 where
-  pub link : (k : ℕ) → k < l → HasLink b n k
-  pub from : (k : ℕ) → k < l → linkFrom b k < length places
-  pub to : (k : ℕ) → k < l → linkTo b k < length places
+-- links between nodes that have a place in the room
+pub record Linking (b : List ℕ) (s : Sizes) (places : List ℕ) : Type 0 where
+  pub link : (k : ℕ) → k < s .links → HasLink b (s .nodes) k
+  pub from : (k : ℕ) → k < s .links → linkFrom b k < length places
+  pub to : (k : ℕ) → k < s .links → linkTo b k < length places

@@ -1,4 +1,5 @@
 // The start lists and the entries of the tables.
+use tables::Layout;
 use words::field::wide;
 ghost use mathlib.Core.Path.{_≡_};
 ghost use Prim.Native.Nat.{_+_, _≤_, _<_};
@@ -42,19 +43,20 @@ fn entries_below(area: &[u16], at: usize, count: usize, bound: usize) -> bool
     true
 }
 
-// Whether both start lists are as 01 says, and the entries are below k and n.
-pub fn tables_known(area: &[u16], n: usize, l: usize, k: usize) -> bool
-    requires { ⌜ Sized (now area) n l k ⌝ }
-    ensures { λ r. ⌜ Says r (Known (now (area .entry)) n l k) ⌝ }
+// Whether both start lists are as 01 says, and the entries are below k and the number of nodes.
+pub fn tables_known(area: &[u16], at: Layout, k: usize) -> bool
+    requires { ⌜ Sized (now area) at k ⌝ }
+    ensures { λ r. ⌜ Says r (Known (now (area .entry)) at k) ⌝ }
 {
-    if !starts_well(area, 1 + 2 * n, n, l + k) {
+    let count = at.sizes.links + k;
+    if !starts_well(area, at.begins, at.sizes.nodes, count) {
         return false;
     }
-    if !starts_well(area, 2 + 4 * n + 2 * l, k, l + k) {
+    if !starts_well(area, at.starts, k, count) {
         return false;
     }
-    if !entries_below(area, 2 + 3 * n, l + k, k) {
+    if !entries_below(area, at.lines, count, k) {
         return false;
     }
-    entries_below(area, 3 + 5 * n + 3 * l, l + k, n)
+    entries_below(area, at.along, count, at.sizes.nodes)
 }

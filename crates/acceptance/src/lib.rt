@@ -11,28 +11,29 @@ use agreement::listed::lists_agree;
 use entries::tables_known;
 use lines::lines_rise;
 use order::order_forward;
+use tables::Layout;
 use words::field::wide;
 
-// Whether the tables in the area are accepted for a map of n nodes and l links; any words may stand there. It reads what is in use alone.
-pub fn accepted(b: &[u8], n: usize, l: usize, area: &[u16]) -> bool
-    requires { ⌜ Testable (now b) (now area) n l ⌝ }
+// Whether the tables in the area are accepted for a map; any words may stand there. It reads what is in use alone.
+pub fn accepted(b: &[u8], at: Layout, area: &[u16]) -> bool
+    requires { ⌜ Testable (now b) (now area) at ⌝ }
     ensures { λ r. ⌜ r ≡ acceptedTables (now (b .entry)) (now (area .entry)) ⌝ }
 {
     let k = wide(area[0]);
-    if k > l + n {
+    if k > at.sizes.links + at.sizes.nodes {
         return false;
     }
-    if !tables_known(area, n, l, k) {
+    if !tables_known(area, at, k) {
         return false;
     }
-    if !order_forward(b, n, l, area) {
+    if !order_forward(b, at, area) {
         return false;
     }
-    if !lines_rise(area, n, l, k) {
+    if !lines_rise(area, at, k) {
         return false;
     }
-    if !lists_agree(area, n, l, k) {
+    if !lists_agree(area, at, k) {
         return false;
     }
-    links_agree(b, area, n, l, k)
+    links_agree(b, at, area, k)
 }

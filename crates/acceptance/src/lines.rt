@@ -1,5 +1,7 @@
 // The positions along the lines.
+use tables::Layout;
 use words::field::wide;
+use words::section::word_at;
 ghost use mathlib.Core.List.{map};
 ghost use lib.ListN.{length, getD};
 ghost use Rattle.lists.specs.Lists.{Rising};
@@ -25,19 +27,17 @@ fn rises_along(line: &[u16], positions: &[u16]) -> bool
 }
 
 // Whether the positions strictly rise along each of the k lines.
-pub fn lines_rise(area: &[u16], n: usize, l: usize, k: usize) -> bool
-    requires { ⌜ Tables (now area) n l k ⌝ }
-    ensures { λ r. ⌜ Says r (Rise (now (area .entry)) n l k) ⌝ }
+pub fn lines_rise(area: &[u16], at: Layout, k: usize) -> bool
+    requires { ⌜ Tables (now area) at k ⌝ }
+    ensures { λ r. ⌜ Says r (Rise (now (area .entry)) at k) ⌝ }
 {
-    let positions = 1 + n;
-    let ends = 1 + 2 * n;
-    let starts = 2 + 4 * n + 2 * l;
-    let nodes = 3 + 5 * n + 3 * l;
+    let positions = at.positions;
+    let positions_end = positions + at.sizes.nodes;
     let mut x = 0;
     while x < k {
-        let from = nodes + wide(area[starts + x]);
-        let to = nodes + wide(area[starts + (x + 1)]);
-        if !rises_along(&area[from..to], &area[positions..ends]) {
+        let from = at.along + word_at(area, at.starts, x);
+        let to = at.along + word_at(area, at.starts, x + 1);
+        if !rises_along(&area[from..to], &area[positions..positions_end]) {
             return false;
         }
         x += 1;

@@ -1,6 +1,8 @@
 // The order of the tables: it holds each node once, and every link goes forward in it.
 use stepmap::access::link_from;
 use stepmap::access::link_to;
+use stepmap::read::Sizes;
+use tables::Layout;
 use words::field::wide;
 ghost use mathlib.Core.Path.{_≡_};
 ghost use Prim.Native.Nat.{_≤_, _<_};
@@ -67,16 +69,16 @@ fn each_once(order: &[u16], places: &mut [u16]) -> bool
     at_places(order, places)
 }
 
-// Whether each of the l links goes from an earlier place to a later one.
-fn links_forward(b: &[u8], n: usize, l: usize, places: &[u16]) -> bool
-    requires { ⌜ Linking (now b) n l (now places) ⌝ }
+// Whether each link goes from an earlier place to a later one.
+fn links_forward(b: &[u8], sizes: Sizes, places: &[u16]) -> bool
+    requires { ⌜ Linking (now b) sizes (now places) ⌝ }
     ensures { λ r. ⌜ r
-        ≡ all (λ k. ltb (getD (now (places .entry)) (linkFrom (now (b .entry)) k) 0) (getD (now (places .entry)) (linkTo (now (b .entry)) k) 0)) (upto l) ⌝ }
+        ≡ all (λ k. ltb (getD (now (places .entry)) (linkFrom (now (b .entry)) k) 0) (getD (now (places .entry)) (linkTo (now (b .entry)) k) 0)) (upto (sizes .links)) ⌝ }
 {
     let mut k = 0;
-    while k < l {
-        let from = link_from(b, n, k);
-        let to = link_to(b, n, k);
+    while k < sizes.links {
+        let from = link_from(b, sizes.nodes, k);
+        let to = link_to(b, sizes.nodes, k);
         if places[from] >= places[to] {
             return false;
         }
@@ -86,14 +88,15 @@ fn links_forward(b: &[u8], n: usize, l: usize, places: &[u16]) -> bool
 }
 
 // Whether the order holds each node once and every link goes forward in it.
-pub fn order_forward(b: &[u8], n: usize, l: usize, area: &[u16]) -> bool
-    requires { ⌜ Testable (now b) (now area) n l ⌝ }
+pub fn order_forward(b: &[u8], at: Layout, area: &[u16]) -> bool
+    requires { ⌜ Testable (now b) (now area) at ⌝ }
     ensures { λ r. ⌜ Says r (Ordered (now (b .entry)) (now (area .entry))) ⌝ }
 {
     let mut places = place_room();
-    let end = 1 + n;
-    if !each_once(&area[1..end], &mut places) {
+    let first = at.order;
+    let end = first + at.sizes.nodes;
+    if !each_once(&area[first..end], &mut places) {
         return false;
     }
-    links_forward(b, n, l, &places)
+    links_forward(b, at.sizes, &places)
 }

@@ -21,7 +21,8 @@ use Rattle.paper.specs.Map.{L, linkFrom, linkTo}
 use Rattle.paper.specs.Accepted.{linksBetween, rightAfter}
 use Rattle.groups.specs.Groups.{hits}
 use Rattle.groups.proofs.Pairs.{hits-places, hits-parts, hits-beside}
-use Rattle.agreement.specs.Tables.{positionsAt, nodesAt, lineStart, nodesOn, Tables, Rise}
+use Rattle.tables.specs.declared.Layout.{Layout}
+use Rattle.agreement.specs.Tables.{entryCount, lineStart, nodesOn, Tables, Rise}
 use Rattle.agreement.specs.Lists.{lineNumbers, fronts, backs, sources, targets}
 use Rattle.agreement.proofs.Laying.{parts-whole}
 use Rattle.agreement.proofs.Reading.{line-rises, line-long}
@@ -40,42 +41,42 @@ hits-few u w (x ∷ xs) (y ∷ ys) = omega (arith, hits-few u w xs ys, less (eqb
 
 -- ---- a node and a line
 
-module _ {a : List ℕ} {n l k : ℕ} (t : Tables a n l k) where
-  nodes-whole : part a (nodesAt n l) (l + k) ≡ flatMap (nodesOn a n l) (upto k)
+module _ {a : List ℕ} {at : Layout} {k : ℕ} (t : Tables a at k) where
+  nodes-whole : part a (at .along) (entryCount at k) ≡ flatMap (nodesOn a at) (upto k)
   nodes-whole =
       sym
-      (parts-whole a (nodesAt n l) (lineStart a n l) (t .known .lineStarts .begins) k (λ x h. omega (arith, line-rises t h)) k (omega arith)
-      ∙ ap (part a (nodesAt n l)) (t .known .lineStarts .ends))
+      (parts-whole a (at .along) (lineStart a at) (t .known .lineStarts .begins) k (λ x h. omega (arith, line-rises t h)) k (omega arith)
+      ∙ ap (part a (at .along)) (t .known .lineStarts .ends))
 
-  numbers-beside : lineNumbers a n l k ≡ flatMap (λ x. replicate (length (nodesOn a n l x)) x) (upto k)
+  numbers-beside : lineNumbers a at k ≡ flatMap (λ x. replicate (length (nodesOn a at x)) x) (upto k)
   unfolding lineNumbers
   numbers-beside =
-      flatMap-from (λ x. replicate (lineStart a n l (suc x) - lineStart a n l x) x) (λ x. replicate (length (nodesOn a n l x)) x) 0 k
+      flatMap-from (λ x. replicate (lineStart a at (suc x) - lineStart a at x) x) (λ x. replicate (length (nodesOn a at x)) x) 0 k
       (λ x h. ap (λ (m : ℕ). replicate m (0 + x)) (sym (long-at x h)))
     where
-      long-at : (x : ℕ) → x < k → length (nodesOn a n l (0 + x)) ≡ lineStart a n l (suc (0 + x)) - lineStart a n l (0 + x)
+      long-at : (x : ℕ) → x < k → length (nodesOn a at (0 + x)) ≡ lineStart a at (suc (0 + x)) - lineStart a at (0 + x)
       long-at x h = line-long t (omega arith)
 
-  on-lines : (v y : ℕ) → hits v y (part a (nodesAt n l) (l + k)) (lineNumbers a n l k) ≡ total (λ x. cond (eqb y x) (times v (nodesOn a n l x)) 0) (upto k)
+  on-lines : (v y : ℕ) → hits v y (part a (at .along) (entryCount at k)) (lineNumbers a at k) ≡ total (λ x. cond (eqb y x) (times v (nodesOn a at x)) 0) (upto k)
   on-lines v y =
       ap₂ (hits v y) nodes-whole numbers-beside
-      ∙ hits-parts v y (nodesOn a n l) (λ x. replicate (length (nodesOn a n l x)) x) (λ x. sym (length-replicate (length (nodesOn a n l x)) x)) (upto k)
-      ∙ total-same (λ x. hits v y (nodesOn a n l x) (replicate (length (nodesOn a n l x)) x)) (λ x. cond (eqb y x) (times v (nodesOn a n l x)) 0) k
-      (λ x h. hits-beside v y x (nodesOn a n l x))
+      ∙ hits-parts v y (nodesOn a at) (λ x. replicate (length (nodesOn a at x)) x) (λ x. sym (length-replicate (length (nodesOn a at x)) x)) (upto k)
+      ∙ total-same (λ x. hits v y (nodesOn a at x) (replicate (length (nodesOn a at x)) x)) (λ x. cond (eqb y x) (times v (nodesOn a at x)) 0) k
+      (λ x h. hits-beside v y x (nodesOn a at x))
 
-  pub line-hits : (v : ℕ) {y : ℕ} → y < k → hits v y (part a (nodesAt n l) (l + k)) (lineNumbers a n l k) ≡ times v (nodesOn a n l y)
-  line-hits v {y} h = on-lines v y ∙ sum-once (λ x. times v (nodesOn a n l x)) y (upto k) (times-upto y k h)
+  pub line-hits : (v : ℕ) {y : ℕ} → y < k → hits v y (part a (at .along) (entryCount at k)) (lineNumbers a at k) ≡ times v (nodesOn a at y)
+  line-hits v {y} h = on-lines v y ∙ sum-once (λ x. times v (nodesOn a at x)) y (upto k) (times-upto y k h)
 
-  pub no-line-hits : (v : ℕ) {y : ℕ} → k ≤ y → hits v y (part a (nodesAt n l) (l + k)) (lineNumbers a n l k) ≡ 0
-  no-line-hits v {y} h = on-lines v y ∙ sum-none (λ x. times v (nodesOn a n l x)) y (upto k) (times-past y k h)
+  pub no-line-hits : (v : ℕ) {y : ℕ} → k ≤ y → hits v y (part a (at .along) (entryCount at k)) (lineNumbers a at k) ≡ 0
+  no-line-hits v {y} h = on-lines v y ∙ sum-none (λ x. times v (nodesOn a at x)) y (upto k) (times-past y k h)
 
-  module _ (rise : Rise a n l k) where
+  module _ (rise : Rise a at k) where
     -- a line lists a node once at most
-    once-on-line : (v : ℕ) {x : ℕ} → x < k → times v (nodesOn a n l x) ≤ 1
-    once-on-line v {x} h = rising-once (λ u. getD a (positionsAt n + u) 0) (nodesOn a n l x) (rise x h) v
+    once-on-line : (v : ℕ) {x : ℕ} → x < k → times v (nodesOn a at x) ≤ 1
+    once-on-line v {x} h = rising-once (λ u. getD a (at .positions + u) 0) (nodesOn a at x) (rise x h) v
 
-    pub member-hits : (v : ℕ) {y : ℕ} → y < k → hits v y (part a (nodesAt n l) (l + k)) (lineNumbers a n l k) ≡ one (member v (nodesOn a n l y))
-    member-hits v {y} h = line-hits v h ∙ times-member v (nodesOn a n l y) (once-on-line v h)
+    pub member-hits : (v : ℕ) {y : ℕ} → y < k → hits v y (part a (at .along) (entryCount at k)) (lineNumbers a at k) ≡ one (member v (nodesOn a at y))
+    member-hits v {y} h = line-hits v h ∙ times-member v (nodesOn a at y) (once-on-line v h)
 
 -- ---- two neighbours
 
@@ -113,21 +114,21 @@ any-count f (x ∷ xs) h = go (f x) h (any-count f xs)
     go true h ih = omega arith
     go false h ih = omega (arith, ih (omega arith))
 
-module _ {a : List ℕ} {n l k : ℕ} (t : Tables a n l k) (rise : Rise a n l k) where
-  pub next-hits : (u w : ℕ) → hits u w (fronts a n l k) (backs a n l k) ≡ count (λ x. rightAfter u w (nodesOn a n l x)) (upto k)
+module _ {a : List ℕ} {at : Layout} {k : ℕ} (t : Tables a at k) (rise : Rise a at k) where
+  pub next-hits : (u w : ℕ) → hits u w (fronts a at k) (backs a at k) ≡ count (λ x. rightAfter u w (nodesOn a at x)) (upto k)
   unfolding fronts backs rightAfter
   next-hits u w =
-      hits-parts u w (λ x. take (length (nodesOn a n l x) - 1) (nodesOn a n l x)) (λ x. drop 1 (nodesOn a n l x)) (λ x. as-long (nodesOn a n l x)) (upto k)
-      ∙ total-same (λ x. hits u w (take (length (nodesOn a n l x) - 1) (nodesOn a n l x)) (drop 1 (nodesOn a n l x)))
-      (λ x. one (rightAfter u w (nodesOn a n l x))) k
-      (λ x h. beside-next u w (nodesOn a n l x) ∙ sym (any-count (λ p. eqb (p .0) u && eqb (p .1) w) (pairs (nodesOn a n l x)) (few x h)))
-      ∙ sym (count-total (λ x. rightAfter u w (nodesOn a n l x)) (λ x. one (rightAfter u w (nodesOn a n l x))) (λ x. refl) (upto k))
+      hits-parts u w (λ x. take (length (nodesOn a at x) - 1) (nodesOn a at x)) (λ x. drop 1 (nodesOn a at x)) (λ x. as-long (nodesOn a at x)) (upto k)
+      ∙ total-same (λ x. hits u w (take (length (nodesOn a at x) - 1) (nodesOn a at x)) (drop 1 (nodesOn a at x)))
+      (λ x. one (rightAfter u w (nodesOn a at x))) k
+      (λ x h. beside-next u w (nodesOn a at x) ∙ sym (any-count (λ p. eqb (p .0) u && eqb (p .1) w) (pairs (nodesOn a at x)) (few x h)))
+      ∙ sym (count-total (λ x. rightAfter u w (nodesOn a at x)) (λ x. one (rightAfter u w (nodesOn a at x))) (λ x. refl) (upto k))
     where
       as-long : (xs : List ℕ) → length (take (length xs - 1) xs) ≡ length (drop 1 xs)
       as-long xs = length-take-le (length xs - 1) xs (omega arith) ∙ sym (length-drop 1 xs)
 
-      few : (x : ℕ) → x < k → count (λ p. eqb (p .0) u && eqb (p .1) w) (pairs (nodesOn a n l x)) ≤ 1
-      few x h = omega (arith, pairs-few u w (nodesOn a n l x), once-on-line t rise u h)
+      few : (x : ℕ) → x < k → count (λ p. eqb (p .0) u && eqb (p .1) w) (pairs (nodesOn a at x)) ≤ 1
+      few x h = omega (arith, pairs-few u w (nodesOn a at x), once-on-line t rise u h)
 
 -- ---- a link's two ends
 

@@ -14,7 +14,8 @@ use Rattle.lists.proofs.Tests.{Says, reworded}
 use Rattle.paper.specs.Map.{linkFrom, linkTo}
 use Rattle.groups.specs.Groups.{hits, Known, group, Cut, SameGroups, Matching, Grouping, GroupedBy}
 use Rattle.groups.proofs.Picking.{part-slice}
-use Rattle.agreement.specs.Tables.{nodeStartsAt, linesAt, nodesAt, nodeStart, linesIn}
+use Rattle.tables.specs.declared.Layout.{Layout}
+use Rattle.agreement.specs.Tables.{entryCount, nodeStart, linesIn}
 use Rattle.agreement.specs.Lists.{lineNumbers, ListsAgree, fronts, backs, sources, targets, LinksAgree, ListsRoom, LinksRoom}
 use Rattle.accepted_theory.proofs.Starts.{start-most}
 use Rattle.agreement.proofs.Listing.{numbers-long, numbers-known, fronts-long, fronts-known, backs-long, backs-known}
@@ -77,59 +78,59 @@ part-of-part a o m f t low high =
 
 -- ---- the lists
 
-module _ {a : List ℕ} {n l k : ℕ} {lines room counters : List ℕ} (ready : ListsRoom a n l k lines room counters) where
-  few-entries : l + k ≤ 4608
+module _ {a : List ℕ} {at : Layout} {k : ℕ} {lines room counters : List ℕ} (ready : ListsRoom a at k lines room counters) where
+  abbrev nodes : ℕ
+  nodes = at .sizes .nodes
+
+  abbrev entries : ℕ
+  entries = entryCount at k
+
+  few-entries : entries ≤ 4608
   few-entries = omega (arith, ready .tables .sized .few-lines, ready .tables .sized .few-links, ready .tables .sized .few-nodes)
 
-  entries-fit : (o : ℕ) → o + (l + k) ≤ length a → length (part a o (o + (l + k) - o)) ≡ l + k
-  entries-fit o h = length-part a o (o + (l + k) - o) (omega arith) ∙ just o (l + k)
-
-  nodes-fit : nodesAt n l + (l + k) ≤ length a
-  nodes-fit = omega (arith, ready .tables .sized .few-lines, ready .tables .sized .room)
-
-  lines-fit : linesAt n + (l + k) ≤ length a
-  lines-fit = omega (arith, ready .tables .sized .few-lines, ready .tables .sized .room)
+  entries-fit : (o : ℕ) → o + entries ≤ length a → length (part a o (o + entries - o)) ≡ entries
+  entries-fit o h = length-part a o (o + entries - o) (omega arith) ∙ just o entries
 
   keys : List ℕ
-  keys = part a (nodesAt n l) (nodesAt n l + (l + k) - nodesAt n l)
+  keys = part a (at .along) (at .along + entries - at .along)
 
-  keys-are : keys ≡ part a (nodesAt n l) (l + k)
+  keys-are : keys ≡ part a (at .along) entries
   unfolding keys
-  keys-are = ap (part a (nodesAt n l)) (just (nodesAt n l) (l + k))
+  keys-are = ap (part a (at .along)) (just (at .along) entries)
 
-  keys-long : length keys ≡ l + k
+  keys-long : length keys ≡ entries
   unfolding keys
-  keys-long = entries-fit (nodesAt n l) nodes-fit
+  keys-long = entries-fit (at .along) (ready .tables .sized .along-fit)
 
-  keys-known : Known n keys
+  keys-known : Known nodes keys
   unfolding keys
   keys-known i h =
       omega (
         arith,
-        getD-part a (nodesAt n l) (nodesAt n l + (l + k) - nodesAt n l) i 0 (omega (arith, keys-long)),
+        getD-part a (at .along) (at .along + entries - at .along) i 0 (omega (arith, keys-long)),
         ready .tables .known .nodesKnown i (omega (arith, keys-long)),
       )
 
   -- the nodes' own lists
   abbrev own : List ℕ
-  own = part a (linesAt n) (linesAt n + (l + k) - linesAt n)
+  own = part a (at .lines) (at .lines + entries - at .lines)
 
   abbrev starts : List ℕ
-  starts = part a (nodeStartsAt n) (linesAt n - nodeStartsAt n)
+  starts = part a (at .begins) (at .begins + (nodes + 1) - at .begins)
 
-  start-is : (v : ℕ) → v ≤ n → getD starts v 0 ≡ nodeStart a n v
-  start-is v h = getD-part a (nodeStartsAt n) (linesAt n - nodeStartsAt n) v 0 (omega arith)
+  start-is : (v : ℕ) → v ≤ nodes → getD starts v 0 ≡ nodeStart a at v
+  start-is v h = getD-part a (at .begins) (at .begins + (nodes + 1) - at .begins) v 0 (omega arith)
 
-  own-long : length own ≡ l + k
-  own-long = entries-fit (linesAt n) lines-fit
+  own-long : length own ≡ entries
+  own-long = entries-fit (at .lines) (ready .tables .sized .lines-fit)
 
-  start-high : (v : ℕ) → v ≤ n → nodeStart a n v ≤ l + k
+  start-high : (v : ℕ) → v ≤ nodes → nodeStart a at v ≤ entries
   start-high v h = omega (arith, start-most (ready .tables .known .nodeStarts) v h)
 
-  own-cut : Cut own starts n
+  own-cut : Cut own starts nodes
   own-cut =
       record {
-        some = omega (arith, length-part a (nodeStartsAt n) (linesAt n - nodeStartsAt n) (omega (arith, ready .tables .sized .room)));
+        some = omega (arith, length-part a (at .begins) (at .begins + (nodes + 1) - at .begins) (omega (arith, ready .tables .sized .begins-fit)));
         rises = λ v h. omega (arith, start-is v (omega arith), start-is (suc v) h, ready .tables .known .nodeStarts .rises v h);
         inside = λ v h. omega (arith, start-is v h, start-high v h, own-long);
         few = omega (arith, own-long, few-entries);
@@ -139,33 +140,33 @@ module _ {a : List ℕ} {n l k : ℕ} {lines room counters : List ℕ} (ready : 
   own-known i h =
       omega (
         arith,
-        getD-part a (linesAt n) (linesAt n + (l + k) - linesAt n) i 0 (omega (arith, own-long)),
+        getD-part a (at .lines) (at .lines + entries - at .lines) i 0 (omega (arith, own-long)),
         ready .tables .known .linesKnown i (omega (arith, own-long)),
         ready .counters-fit,
       )
 
-  own-group : (v : ℕ) → v < n → group own starts v ≡ linesIn a n v
+  own-group : (v : ℕ) → v < nodes → group own starts v ≡ linesIn a at v
   own-group v h =
       ap₂ (λ (i j : ℕ). slice i j own) (start-is v (omega arith)) (start-is (suc v) h)
-      ∙ ap (λ (d : ℕ). slice (nodeStart a n v) (nodeStart a n (suc v)) (part a (linesAt n) d)) (just (linesAt n) (l + k))
-      ∙ part-of-part a (linesAt n) (l + k) (nodeStart a n v) (nodeStart a n (suc v)) (omega (arith, ready .tables .known .nodeStarts .rises v h)) (start-high (suc v) h)
+      ∙ ap (λ (d : ℕ). slice (nodeStart a at v) (nodeStart a at (suc v)) (part a (at .lines) d)) (just (at .lines) entries)
+      ∙ part-of-part a (at .lines) entries (nodeStart a at v) (nodeStart a at (suc v)) (omega (arith, ready .tables .known .nodeStarts .rises v h)) (start-high (suc v) h)
 
-  module _ {lines′ room′ : List ℕ} (numbered : lines′ ≡ sets lines 0 (lineNumbers a n l k))
-      (put : room′ ≡ sets room 0 (part a (nodesAt n l) (nodesAt n l + (l + k) - nodesAt n l))) where
-    pub lists-grouping : Grouping room′ (l + k) n (take (l + k - 0) lines′)
+  module _ {lines′ room′ : List ℕ} (numbered : lines′ ≡ sets lines 0 (lineNumbers a at k))
+      (put : room′ ≡ sets room 0 (part a (at .along) (at .along + entries - at .along))) where
+    pub lists-grouping : Grouping room′ entries nodes (take (entries - 0) lines′)
     unfolding keys
     lists-grouping =
-        grouping room keys lines (lineNumbers a n l k) keys-long (omega (arith, few-entries)) (ready .room-fits) keys-known put (numbers-long (ready .tables))
+        grouping room keys lines (lineNumbers a at k) keys-long (omega (arith, few-entries)) (ready .room-fits) keys-known put (numbers-long (ready .tables))
         (ready .lines-fit) numbered
 
-    module _ (room″ : List ℕ) (g : GroupedBy (take (l + k) room′) (take (l + k - 0) lines′) n (take (l + k) room″) (part room″ (l + k) (n + 1))) where
-      lent : GroupedBy keys (lineNumbers a n l k) n (take (l + k - 0) room″) (part room″ (l + k) (l + k + (n + 1) - (l + k)))
+    module _ (room″ : List ℕ) (g : GroupedBy (take entries room′) (take (entries - 0) lines′) nodes (take entries room″) (part room″ entries (nodes + 1))) where
+      lent : GroupedBy keys (lineNumbers a at k) nodes (take (entries - 0) room″) (part room″ entries (entries + (nodes + 1) - entries))
       unfolding keys
       lent =
-          grouped-lent room keys lines (lineNumbers a n l k) room″ keys-long (omega (arith, ready .room-fits)) put (numbers-long (ready .tables)) (ready .lines-fit)
+          grouped-lent room keys lines (lineNumbers a at k) room″ keys-long (omega (arith, ready .room-fits)) put (numbers-long (ready .tables)) (ready .lines-fit)
           numbered g
 
-      pub lists-matching : Matching own starts (take (l + k - 0) room″) (part room″ (l + k) (l + k + (n + 1) - (l + k))) n counters
+      pub lists-matching : Matching own starts (take (entries - 0) room″) (part room″ entries (entries + (nodes + 1) - entries)) nodes counters
       lists-matching =
           record {
             left = own-cut;
@@ -175,57 +176,60 @@ module _ {a : List ℕ} {n l k : ℕ} {lines room counters : List ℕ} (ready : 
             zeros = ready .zeros;
           }
 
-      pub lists-told : {r : Bool} → Says r (SameGroups own starts (take (l + k - 0) room″) (part room″ (l + k) (l + k + (n + 1) - (l + k))) n)
-          → Says r (ListsAgree a n l k)
+      pub lists-told : {r : Bool} → Says r (SameGroups own starts (take (entries - 0) room″) (part room″ entries (entries + (nodes + 1) - entries)) nodes)
+          → Says r (ListsAgree a at k)
       lists-told said =
           reworded (λ same v h x. sym (ap (times x) (own-group v h)) ∙ same v h x ∙ right v h x) (λ agree v h x. ap (times x) (own-group v h) ∙ agree v h x ∙ sym (right v h x))
           said
         where
-          right : (v : ℕ) → v < n → (x : ℕ) → times x (group (take (l + k - 0) room″) (part room″ (l + k) (l + k + (n + 1) - (l + k))) v)
-              ≡ hits v x (part a (nodesAt n l) (l + k)) (lineNumbers a n l k)
-          right v h x = lent .has v h x ∙ ap (λ (xs : List ℕ). hits v x xs (lineNumbers a n l k)) keys-are
+          right : (v : ℕ) → v < nodes → (x : ℕ) → times x (group (take (entries - 0) room″) (part room″ entries (entries + (nodes + 1) - entries)) v)
+              ≡ hits v x (part a (at .along) entries) (lineNumbers a at k)
+          right v h x = lent .has v h x ∙ ap (λ (xs : List ℕ). hits v x xs (lineNumbers a at k)) keys-are
 
 -- ---- the links
 
-module _ {b a : List ℕ} {n l k : ℕ} {links ends pairs nexts counters : List ℕ} (ready : LinksRoom b a n l k links ends pairs nexts counters) where
-  sources-known : Known n (sources b l)
+module _ {b a : List ℕ} {at : Layout} {k : ℕ} {links ends pairs nexts counters : List ℕ} (ready : LinksRoom b a at k links ends pairs nexts counters) where
+  abbrev count : ℕ
+  count = at .sizes .links
+
+  sources-known : Known (at .sizes .nodes) (sources b count)
   sources-known i h =
-      let lt : i < l = omega (arith, length-table (linkFrom b) l) in
-      omega (arith, getD-table (linkFrom b) l i 0 lt, ready .linked .from i lt)
+      let lt : i < count = omega (arith, length-table (linkFrom b) count) in
+      omega (arith, getD-table (linkFrom b) count i 0 lt, ready .linked .from i lt)
 
-  targets-known : Known n (targets b l)
+  targets-known : Known (at .sizes .nodes) (targets b count)
   targets-known i h =
-      let lt : i < l = omega (arith, length-table (linkTo b) l) in
-      omega (arith, getD-table (linkTo b) l i 0 lt, ready .linked .to i lt)
+      let lt : i < count = omega (arith, length-table (linkTo b) count) in
+      omega (arith, getD-table (linkTo b) count i 0 lt, ready .linked .to i lt)
 
-  small : l < 65536
+  small : count < 65536
   small = omega (arith, ready .linked .few)
 
-  module _ {links′ ends′ pairs′ nexts′ : List ℕ} (is-links : links′ ≡ sets links 0 (sources b l)) (is-ends : ends′ ≡ sets ends 0 (targets b l))
-      (is-pairs : pairs′ ≡ sets pairs 0 (fronts a n l k)) (is-nexts : nexts′ ≡ sets nexts 0 (backs a n l k)) where
-    pub links-grouping : Grouping links′ l n (take (l - 0) ends′)
+  module _ {links′ ends′ pairs′ nexts′ : List ℕ} (is-links : links′ ≡ sets links 0 (sources b count)) (is-ends : ends′ ≡ sets ends 0 (targets b count))
+      (is-pairs : pairs′ ≡ sets pairs 0 (fronts a at k)) (is-nexts : nexts′ ≡ sets nexts 0 (backs a at k)) where
+    pub links-grouping : Grouping links′ count (at .sizes .nodes) (take (count - 0) ends′)
     links-grouping =
-        grouping links (sources b l) ends (targets b l) (length-table (linkFrom b) l) small (ready .links-fit) sources-known is-links (length-table (linkTo b) l)
+        grouping links (sources b count) ends (targets b count) (length-table (linkFrom b) count) small (ready .links-fit) sources-known is-links (length-table (linkTo b) count)
         (ready .ends-fit) is-ends
 
-    pub pairs-grouping : Grouping pairs′ l n (take (l - 0) nexts′)
+    pub pairs-grouping : Grouping pairs′ count (at .sizes .nodes) (take (count - 0) nexts′)
     pairs-grouping =
-        grouping pairs (fronts a n l k) nexts (backs a n l k) (fronts-long (ready .tables)) small (ready .pairs-fit) (fronts-known (ready .tables)) is-pairs
+        grouping pairs (fronts a at k) nexts (backs a at k) (fronts-long (ready .tables)) small (ready .pairs-fit) (fronts-known (ready .tables)) is-pairs
         (backs-long (ready .tables)) (ready .nexts-fit) is-nexts
 
-    module _ (links″ pairs″ : List ℕ) (g₁ : GroupedBy (take l links′) (take (l - 0) ends′) n (take l links″) (part links″ l (n + 1)))
-        (g₂ : GroupedBy (take l pairs′) (take (l - 0) nexts′) n (take l pairs″) (part pairs″ l (n + 1))) where
-      lent₁ : GroupedBy (sources b l) (targets b l) n (take (l - 0) links″) (part links″ l (l + (n + 1) - l))
+    module _ (links″ pairs″ : List ℕ) (g₁ : GroupedBy (take count links′) (take (count - 0) ends′) (at .sizes .nodes) (take count links″) (part links″ count (at .sizes .nodes + 1)))
+        (g₂ : GroupedBy (take count pairs′) (take (count - 0) nexts′) (at .sizes .nodes) (take count pairs″) (part pairs″ count (at .sizes .nodes + 1))) where
+      lent₁ : GroupedBy (sources b count) (targets b count) (at .sizes .nodes) (take (count - 0) links″) (part links″ count (count + (at .sizes .nodes + 1) - count))
       lent₁ =
-          grouped-lent links (sources b l) ends (targets b l) links″ (length-table (linkFrom b) l) (omega (arith, ready .links-fit)) is-links (length-table (linkTo b) l)
+          grouped-lent links (sources b count) ends (targets b count) links″ (length-table (linkFrom b) count) (omega (arith, ready .links-fit)) is-links (length-table (linkTo b) count)
           (ready .ends-fit) is-ends g₁
 
-      lent₂ : GroupedBy (fronts a n l k) (backs a n l k) n (take (l - 0) pairs″) (part pairs″ l (l + (n + 1) - l))
+      lent₂ : GroupedBy (fronts a at k) (backs a at k) (at .sizes .nodes) (take (count - 0) pairs″) (part pairs″ count (count + (at .sizes .nodes + 1) - count))
       lent₂ =
-          grouped-lent pairs (fronts a n l k) nexts (backs a n l k) pairs″ (fronts-long (ready .tables)) (omega (arith, ready .pairs-fit)) is-pairs
+          grouped-lent pairs (fronts a at k) nexts (backs a at k) pairs″ (fronts-long (ready .tables)) (omega (arith, ready .pairs-fit)) is-pairs
           (backs-long (ready .tables)) (ready .nexts-fit) is-nexts g₂
 
-      pub links-matching : Matching (take (l - 0) links″) (part links″ l (l + (n + 1) - l)) (take (l - 0) pairs″) (part pairs″ l (l + (n + 1) - l)) n counters
+      pub links-matching : Matching (take (count - 0) links″) (part links″ count (count + (at .sizes .nodes + 1) - count)) (take (count - 0) pairs″) (part pairs″ count (count + (at .sizes .nodes + 1) - count)) (at .sizes .nodes) counters
       links-matching =
           record {
             left = lent₁ .cut;
@@ -236,8 +240,8 @@ module _ {b a : List ℕ} {n l k : ℕ} {links ends pairs nexts counters : List 
           }
 
       pub links-told : {r : Bool}
-          → Says r (SameGroups (take (l - 0) links″) (part links″ l (l + (n + 1) - l)) (take (l - 0) pairs″) (part pairs″ l (l + (n + 1) - l)) n)
-          → Says r (LinksAgree b a n l k)
+          → Says r (SameGroups (take (count - 0) links″) (part links″ count (count + (at .sizes .nodes + 1) - count)) (take (count - 0) pairs″) (part pairs″ count (count + (at .sizes .nodes + 1) - count)) (at .sizes .nodes))
+          → Says r (LinksAgree b a at k)
       links-told said =
           reworded (λ same u h w. sym (lent₁ .has u h w) ∙ same u h w ∙ lent₂ .has u h w) (λ agree u h w. lent₁ .has u h w ∙ agree u h w ∙ sym (lent₂ .has u h w))
           said

@@ -1,8 +1,9 @@
 // The lists of nodes and lines held against each other: a node lists a line as often as the line lists it.
 use groups::group_by;
 use groups::same_groups;
-use words::field::wide;
+use tables::Layout;
 use words::section::fill;
+use words::section::word_at;
 ghost use mathlib.Core.Path.{_≡_};
 ghost use Prim.Native.Nat.{_+_, _≤_};
 ghost use lib.ListN.{length};
@@ -10,7 +11,7 @@ ghost use lib.Seq.{sets};
 ghost use Rattle.lists.proofs.Tests.{Says};
 ghost use Rattle.groups.specs.Groups.{AtZero};
 ghost use Rattle.agreement.specs.Lists.{ListsAgree, ListsRoom, lineNumbers};
-ghost use Rattle.agreement.specs.Tables.{Tables};
+ghost use Rattle.agreement.specs.Tables.{Tables, entryCount};
 
 // A word for each entry that the lists of a map may have.
 pub fn entry_room() -> [u16; 4608]
@@ -46,17 +47,16 @@ pub fn put_in(room: &mut [u16], at: usize, words: &[u16])
 }
 
 // Writes, for each entry of the lines' nodes, the number of its line.
-fn line_numbers(area: &[u16], n: usize, l: usize, k: usize, lines: &mut [u16])
-    requires { ⌜ Tables (now area) n l k ⌝ }
-    requires { ⌜ l + k ≤ length (now lines) ⌝ }
-    ensures { λ _. ⌜ now (lines .exit) ≡ sets (now (lines .entry)) 0 (lineNumbers (now (area .entry)) n l k) ⌝ }
+fn line_numbers(area: &[u16], at: Layout, k: usize, numbers: &mut [u16])
+    requires { ⌜ Tables (now area) at k ⌝ }
+    requires { ⌜ entryCount at k ≤ length (now numbers) ⌝ }
+    ensures { λ _. ⌜ now (numbers .exit) ≡ sets (now (numbers .entry)) 0 (lineNumbers (now (area .entry)) at k) ⌝ }
 {
-    let starts = 2 + 4 * n + 2 * l;
     let mut x = 0;
     while x < k {
-        let from = wide(area[starts + x]);
-        let to = wide(area[starts + (x + 1)]);
-        fill(lines, from, to - from, x as u16);
+        let from = word_at(area, at.starts, x);
+        let to = word_at(area, at.starts, x + 1);
+        fill(numbers, from, to - from, x as u16);
         x += 1;
     }
 }
@@ -64,43 +64,44 @@ fn line_numbers(area: &[u16], n: usize, l: usize, k: usize, lines: &mut [u16])
 // Whether the lists agree: the lines' entries, sorted by node, are compared with the nodes' own lists.
 fn lists_agree_in(
     area: &[u16],
-    n: usize,
-    l: usize,
+    at: Layout,
     k: usize,
-    lines: &mut [u16],
+    numbers: &mut [u16],
     room: &mut [u16],
     counters: &mut [u16],
 ) -> bool
-    requires { ⌜ ListsRoom (now area) n l k (now lines) (now room) (now counters) ⌝ }
-    ensures { λ r. ⌜ Says r (ListsAgree (now (area .entry)) n l k) ⌝ }
+    requires { ⌜ ListsRoom (now area) at k (now numbers) (now room) (now counters) ⌝ }
+    ensures { λ r. ⌜ Says r (ListsAgree (now (area .entry)) at k) ⌝ }
 {
-    let m = l + k;
-    let nodes = 3 + 5 * n + 3 * l;
-    let own = 2 + 3 * n;
-    let starts = 1 + 2 * n;
-    let nodes_end = nodes + m;
-    let own_end = own + m;
-    let cuts_end = m + (n + 1);
-    line_numbers(area, n, l, k, lines);
-    put_in(room, 0, &area[nodes..nodes_end]);
-    group_by(room, m, n, &lines[0..m]);
+    let count = at.sizes.links + k;
+    let cuts = at.sizes.nodes + 1;
+    let along = at.along;
+    let along_end = along + count;
+    let lines = at.lines;
+    let lines_end = lines + count;
+    let begins = at.begins;
+    let begins_end = begins + cuts;
+    let cuts_end = count + cuts;
+    line_numbers(area, at, k, numbers);
+    put_in(room, 0, &area[along..along_end]);
+    group_by(room, count, at.sizes.nodes, &numbers[0..count]);
     same_groups(
-        &area[own..own_end],
-        &area[starts..own],
-        &room[0..m],
-        &room[m..cuts_end],
-        n,
+        &area[lines..lines_end],
+        &area[begins..begins_end],
+        &room[0..count],
+        &room[count..cuts_end],
+        at.sizes.nodes,
         counters,
     )
 }
 
 // Whether each node lists each line as often as the line lists it.
-pub fn lists_agree(area: &[u16], n: usize, l: usize, k: usize) -> bool
-    requires { ⌜ Tables (now area) n l k ⌝ }
-    ensures { λ r. ⌜ Says r (ListsAgree (now (area .entry)) n l k) ⌝ }
+pub fn lists_agree(area: &[u16], at: Layout, k: usize) -> bool
+    requires { ⌜ Tables (now area) at k ⌝ }
+    ensures { λ r. ⌜ Says r (ListsAgree (now (area .entry)) at k) ⌝ }
 {
-    let mut lines = entry_room();
+    let mut numbers = entry_room();
     let mut room = sort_room();
     let mut counters = counter_room();
-    lists_agree_in(area, n, l, k, &mut lines, &mut room, &mut counters)
+    lists_agree_in(area, at, k, &mut numbers, &mut room, &mut counters)
 }

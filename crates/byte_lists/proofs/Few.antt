@@ -19,6 +19,7 @@ use Rattle.intervals.specs.Answer.{listIn}
 use Rattle.intervals.specs.Holds.{Listed}
 use Rattle.intervals.proofs.Cleared.{listing}
 use Rattle.refusals.proofs.Rulings.{no-refusal}
+use Rattle.tables.proofs.Bridge.{by-numbers}
 use Rattle.tables.specs.declared.Layout.{Layout}
 use Rattle.tables.specs.Usable.{Usable}
 use Rattle.tables.specs.UsableBy.{scratchAt}
@@ -31,12 +32,12 @@ one-a-line b a list = go (all (contiguous b a list) (touched b a list))
     go true = omega (arith, length-map (touched b a list) (interval b a list))
     go false = omega arith
 
-pub few-needed : {b a : List ℕ} {n l p c : ℕ} → Usable b a at → Listed a (scratchAt (at .sizes .nodes) (at .sizes .links)) c n → needed (intervals b a (listIn a (at .sizes .nodes) (at .sizes .links) c)) ≤ 2560
-few-needed {b} {a} {n} {l} {p} {c} usable there =
+pub few-needed : {b a : List ℕ} {at : Layout} {c : ℕ} → Usable b a at → Listed a (scratchAt (at .sizes .nodes) (at .sizes .links)) c (at .sizes .nodes) → needed (intervals b a (listIn a (at .sizes .nodes) (at .sizes .links) c)) ≤ 2560
+few-needed {b} {a} {at} {c} usable there =
     omega (
       arith,
       one-a-line b a (listIn a (at .sizes .nodes) (at .sizes .links) c),
-      touched-few (usable .tables) (listIn a (at .sizes .nodes) (at .sizes .links) c) (listing usable there .known),
+      touched-few (usable .tables) (listIn a (at .sizes .nodes) (at .sizes .links) c) (listing (by-numbers usable) there .known),
       usable .tables .few,
       usable .read .nodes,
       usable .read .links,

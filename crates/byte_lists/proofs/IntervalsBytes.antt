@@ -46,17 +46,17 @@ words-needed apart = refl
 -- ---- from the intervals in a room of words
 
 -- few records are asked for in a room for so many as the bytes hold, or 2,560, which is lent as the first words of a longer one
-pub record RecordsIn (n l p : ℕ) (a m : List ℕ) (r : IntervalsAnswer) (found : Records) (room after bytes : List ℕ) : Type 0 where
-  pub inside : InRoom n l p a m (intervalsSaid r) (Rules (wordsFrom bytes) found) (said found) room after (wordsOf found) bytes
+pub record RecordsIn (at : Layout) (a m : List ℕ) (r : IntervalsAnswer) (found : Records) (room after bytes : List ℕ) : Type 0 where
+  pub inside : InRoom at a m (intervalsSaid r) (Rules (wordsFrom bytes) found) (said found) room after (wordsOf found) bytes
 
-pub in-room : {b a : List ℕ} {n l p c : ℕ} → Usable b a at → Listed a (scratchAt (at .sizes .nodes) (at .sizes .links)) c n → (bytes : List ℕ) → Below 256 bytes → {fit : ℕ}
+pub in-room : {b a : List ℕ} {at : Layout} {c : ℕ} → Usable b a at → Listed a (scratchAt (at .sizes .nodes) (at .sizes .links)) c (at .sizes .nodes) → (bytes : List ℕ) → Below 256 bytes → {fit : ℕ}
     → fit ≡ min (length bytes / 2 / 3) 2560
     → (room : List ℕ) → length room ≡ 7680 → (r : IntervalsAnswer) {m after : List ℕ}
     → AnsweredInto at a m (intervalsSaid r) (Rules (part room 0 (3 * fit - 0)) (intervals b a (listIn a (at .sizes .nodes) (at .sizes .links) c))) (said (intervals b a (listIn a (at .sizes .nodes) (at .sizes .links) c)))
     (part room 0 (3 * fit - 0)) after (wordsOf (intervals b a (listIn a (at .sizes .nodes) (at .sizes .links) c)))
-    → RecordsIn n l p a m r (intervals b a (listIn a (at .sizes .nodes) (at .sizes .links) c)) (part room 0 (3 * fit - 0)) after bytes
+    → RecordsIn at a m r (intervals b a (listIn a (at .sizes .nodes) (at .sizes .links) c)) (part room 0 (3 * fit - 0)) after bytes
 unfolding wholeRecords
-in-room {b} {a} {n} {l} {c = c} usable there bytes small {fit} enough room long r into =
+in-room {b} {a} {at} {c} usable there bytes small {fit} enough room long r into =
     record {
       inside =
           record {
@@ -85,7 +85,7 @@ in-room {b} {a} {n} {l} {c = c} usable there bytes small {fit} enough room long 
         ap (λ (u : Ruling). decide (u ∷ []))
         (ap (λ (k : ℕ). rule11 k (needed found)) whole ∙ room-decides (length (wordsFrom bytes) / 3) 2560 (needed found) (few-needed usable there))
 
-module _ {n l p : ℕ} {a m : List ℕ} {r : IntervalsAnswer} {found : Records} {room after bytes : List ℕ} (asked : RecordsIn n l p a m r found room after bytes) where
+module _ {at : Layout} {a m : List ℕ} {r : IntervalsAnswer} {found : Records} {room after bytes : List ℕ} (asked : RecordsIn at a m r found room after bytes) where
   -- an answer that is not of records
   pub not-to-bytes : OneOf (1 ∷ 2 ∷ []) (tagOf the-type r)
       → AnsweredBytes at a m (intervalsSaid r) (Rules (wordsFrom bytes) found) (said found) bytes bytes (wordsOf found)
@@ -117,7 +117,7 @@ module _ {n l p : ℕ} {a m : List ℕ} {r : IntervalsAnswer} {found : Records} 
 
 -- ---- from the caller's list
 
-module _ {b a : List ℕ} {n l p : ℕ} (usable : Usable b a at) {list : List ℕ} {c : ℕ} {m : List ℕ} (nodes : AllNodes n list (scratchAt (at .sizes .nodes) (at .sizes .links)) c m)
+module _ {b a : List ℕ} {at : Layout} (usable : Usable b a at) {list : List ℕ} {c : ℕ} {m : List ℕ} (nodes : AllNodes (at .sizes .nodes) list (scratchAt (at .sizes .nodes) (at .sizes .links)) c m)
     (kept : Scratched at a m) where
   -- what is written on the area with the list is what the question answers
   pub nodes-to-bytes : {o : List ℕ} {x : Answer Written} {bytes after : List ℕ}

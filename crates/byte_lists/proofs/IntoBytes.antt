@@ -14,7 +14,7 @@ use Rattle.words.proofs.Buffers.{put-result}
 use Rattle.tables.specs.declared.Layout.{Layout}
 use Rattle.tables.specs.Answered.{AnsweredInto, AnsweredBytes}
 
-module _ {A : Type 0} {n l p : ℕ} {a m : List ℕ} {x : Answer A} {rules : List Ruling} {y : A} {bytes result : List ℕ} where
+module _ {A : Type 0} {at : Layout} {a m : List ℕ} {x : Answer A} {rules : List Ruling} {y : A} {bytes result : List ℕ} where
   -- what stands in the buffer's words is put back
   pub bytes-back : {words after : List ℕ} → AnsweredInto at a m x rules y (wordsFrom bytes) words result → after ≡ putWords bytes words
       → AnsweredBytes at a m x rules y bytes after result
@@ -44,7 +44,7 @@ unfolding onRefusal
 unwritten passed words none = ap (sets words 0) (none refl)
 unwritten (refusal i v) words none = refl
 
-module _ {A : Type 0} {n l p : ℕ} {a m : List ℕ} {x : Answer A} {rules : List Ruling} {y : A} {room after result : List ℕ} (others : List Ruling)
+module _ {A : Type 0} {at : Layout} {a m : List ℕ} {x : Answer A} {rules : List Ruling} {y : A} {room after result : List ℕ} (others : List Ruling)
     (bytes : List ℕ) (small : Below 256 bytes) (got : AnsweredInto at a m x rules y room after result) (same : decide rules ≡ decide others) where
   pub says-so : x ≡ answer (decide others) y
   says-so = got .says ∙ ap (λ (u : Ruling). answer u y) same

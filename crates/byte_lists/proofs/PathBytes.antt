@@ -19,7 +19,8 @@ use Rattle.take_in.proofs.Answers.{AllNodes}
 use Rattle.intervals.specs.Answer.{listIn}
 use Rattle.intervals.specs.Holds.{Listed}
 use Rattle.intervals.proofs.Cleared.{listing}
-use Rattle.intervals.proofs.Taken.{list-into}
+use Rattle.line_checker.proofs.ByPlaces.{list-into}
+use Rattle.tables.proofs.Bridge.{by-numbers}
 use Rattle.tables.specs.declared.Layout.{Layout}
 use Rattle.tables.specs.Answered.{AnsweredInto, AnsweredBytes}
 use Rattle.tables.specs.Usable.{Usable, Scratched}
@@ -34,13 +35,13 @@ use Rattle.byte_lists.proofs.IntoBytes.{bytes-back, answer-told}
 use Rattle.byte_lists.proofs.Room.{InRoom, room-says, nothing-put, words-put}
 
 -- a path has at most one step more than the map has nodes
-pub short-path : {b a : List ℕ} {n l p c : ℕ} → Usable b a at → Listed a (scratchAt (at .sizes .nodes) (at .sizes .links)) c n → length (stepsOf (backPath b (listIn a (at .sizes .nodes) (at .sizes .links) c))) ≤ 513
+pub short-path : {b a : List ℕ} {at : Layout} {c : ℕ} → Usable b a at → Listed a (scratchAt (at .sizes .nodes) (at .sizes .links)) c (at .sizes .nodes) → length (stepsOf (backPath b (listIn a (at .sizes .nodes) (at .sizes .links) c))) ≤ 513
 unfolding stepsOf
-short-path {b} {a} {n} {l} {c = c} usable there = go (backPath b (listIn a (at .sizes .nodes) (at .sizes .links) c)) refl
+short-path {b} {a} {at} {c} usable there = go (backPath b (listIn a (at .sizes .nodes) (at .sizes .links) c)) refl
   where
     go : (f : Path) → backPath b (listIn a (at .sizes .nodes) (at .sizes .links) c) ≡ f → length (stepsOf f) ≤ 513
     go (path vs) e =
-        omega (arith, back-path-room b (listIn a (at .sizes .nodes) (at .sizes .links) c) (listing usable there .known) e, usable .read .nodes, usable .read .few-nodes)
+        omega (arith, back-path-room b (listIn a (at .sizes .nodes) (at .sizes .links) c) (listing (by-numbers usable) there .known) e, usable .read .nodes, usable .read .few-nodes)
     go noPath e = omega arith
 
 -- ---- from the path in a room of words
@@ -50,16 +51,16 @@ abbrev Rules : List ℕ → Path → List Ruling
 Rules buffer found = rule11 (length buffer) (length (stepsOf found)) ∷ []
 
 -- a path is asked for in a room for so many steps as the bytes hold, or 513, which is lent as the first words of a longer one
-pub record PathIn (n l p : ℕ) (a m : List ℕ) (r : PathAnswer) (found : Path) (room after bytes : List ℕ) : Type 0 where
-  pub inside : InRoom n l p a m (pathSaid r) (Rules (wordsFrom bytes) found) (shownOf found) room after (stepsOf found) bytes
+pub record PathIn (at : Layout) (a m : List ℕ) (r : PathAnswer) (found : Path) (room after bytes : List ℕ) : Type 0 where
+  pub inside : InRoom at a m (pathSaid r) (Rules (wordsFrom bytes) found) (shownOf found) room after (stepsOf found) bytes
 
-pub in-room : {b a : List ℕ} {n l p c : ℕ} → Usable b a at → Listed a (scratchAt (at .sizes .nodes) (at .sizes .links)) c n → (bytes : List ℕ) → Below 256 bytes → {fit : ℕ}
+pub in-room : {b a : List ℕ} {at : Layout} {c : ℕ} → Usable b a at → Listed a (scratchAt (at .sizes .nodes) (at .sizes .links)) c (at .sizes .nodes) → (bytes : List ℕ) → Below 256 bytes → {fit : ℕ}
     → fit ≡ min (length bytes / 2) 513
     → (room : List ℕ) → length room ≡ 513 → (r : PathAnswer) {m after : List ℕ}
     → AnsweredInto at a m (pathSaid r) (Rules (part room 0 (fit - 0)) (backPath b (listIn a (at .sizes .nodes) (at .sizes .links) c))) (shownOf (backPath b (listIn a (at .sizes .nodes) (at .sizes .links) c)))
     (part room 0 (fit - 0)) after (stepsOf (backPath b (listIn a (at .sizes .nodes) (at .sizes .links) c)))
-    → PathIn n l p a m r (backPath b (listIn a (at .sizes .nodes) (at .sizes .links) c)) (part room 0 (fit - 0)) after bytes
-in-room {b} {a} {n} {l} {c = c} usable there bytes small {fit} enough room long r into =
+    → PathIn at a m r (backPath b (listIn a (at .sizes .nodes) (at .sizes .links) c)) (part room 0 (fit - 0)) after bytes
+in-room {b} {a} {at} {c} usable there bytes small {fit} enough room long r into =
     record {
       inside =
           record {
@@ -84,7 +85,7 @@ in-room {b} {a} {n} {l} {c = c} usable there bytes small {fit} enough room long 
         ap (λ (u : Ruling). decide (u ∷ []))
         (ap (λ (k : ℕ). rule11 k (length (stepsOf found))) lent ∙ room-decides (length (wordsFrom bytes)) 513 (length (stepsOf found)) (short-path usable there))
 
-module _ {n l p : ℕ} {a m : List ℕ} {r : PathAnswer} {found : Path} {room after bytes : List ℕ} (asked : PathIn n l p a m r found room after bytes) where
+module _ {at : Layout} {a m : List ℕ} {r : PathAnswer} {found : Path} {room after bytes : List ℕ} (asked : PathIn at a m r found room after bytes) where
   -- an answer that is not of a path
   pub not-to-bytes : OneOf (1 ∷ 2 ∷ []) (tagOf the-type r)
       → AnsweredBytes at a m (pathSaid r) (Rules (wordsFrom bytes) found) (shownOf found) bytes bytes (stepsOf found)
@@ -123,7 +124,7 @@ module _ {n l p : ℕ} {a m : List ℕ} {r : PathAnswer} {found : Path} {room af
 
 -- ---- from the caller's list
 
-module _ {b a : List ℕ} {n l p : ℕ} (usable : Usable b a at) {list : List ℕ} {c : ℕ} {m : List ℕ} (nodes : AllNodes n list (scratchAt (at .sizes .nodes) (at .sizes .links)) c m)
+module _ {b a : List ℕ} {at : Layout} (usable : Usable b a at) {list : List ℕ} {c : ℕ} {m : List ℕ} (nodes : AllNodes (at .sizes .nodes) list (scratchAt (at .sizes .nodes) (at .sizes .links)) c m)
     (kept : Scratched at a m) where
   -- what is written on the area with the list is what the question answers
   pub nodes-to-bytes : {o : List ℕ} {x : Answer Shown} {bytes after : List ℕ}

@@ -14,7 +14,7 @@ use Rattle.tables.specs.Answered.{AnsweredInto, AnsweredBytes}
 use Rattle.byte_lists.proofs.IntoBytes.{says-so, none-to-bytes, room-stands, some-to-bytes}
 
 -- the rules decide by the room, `own`, as they do by the bytes, and where they pass there is room for the result in both
-pub record InRoom {A : Type 0} (n l p : ℕ) (a m : List ℕ) (x : Answer A) (rules : List Ruling) (y : A) (room after result bytes : List ℕ) : Type 0 where
+pub record InRoom {A : Type 0} (at : Layout) (a m : List ℕ) (x : Answer A) (rules : List Ruling) (y : A) (room after result bytes : List ℕ) : Type 0 where
   pub own : List Ruling
   pub into : AnsweredInto at a m x own y room after result
   pub same : decide own ≡ decide rules
@@ -22,8 +22,8 @@ pub record InRoom {A : Type 0} (n l p : ℕ) (a m : List ℕ) (x : Answer A) (ru
   pub half : 2 * length room ≤ length bytes
   pub small : Below 256 bytes
 
-module _ {A : Type 0} {n l p : ℕ} {a m : List ℕ} {x : Answer A} {rules : List Ruling} {y : A} {room after result bytes : List ℕ}
-    (asked : InRoom n l p a m x rules y room after result bytes) where
+module _ {A : Type 0} {at : Layout} {a m : List ℕ} {x : Answer A} {rules : List Ruling} {y : A} {room after result bytes : List ℕ}
+    (asked : InRoom at a m x rules y room after result bytes) where
   pub room-says : x ≡ answer (decide rules) y
   room-says = says-so rules bytes (asked .small) (asked .into) (asked .same)
 

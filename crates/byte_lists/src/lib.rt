@@ -22,6 +22,7 @@ use back_path::showing::show_listed;
 use line_checker::line_check::check_listed;
 use line_checker::list_intervals::write_intervals;
 use line_checker::room::record_room;
+use tables::Layout;
 use take_in::Taken;
 use take_in::list_refusal;
 use take_in::take_in_bytes;
@@ -38,14 +39,7 @@ pub fn check_list_bytes(b: &[u8], at: Layout, area: &mut [u16], list: &[u8]) -> 
     let Taken::Nodes(count) = taken else {
         return LineAnswer::Refused(list_refusal(taken));
     };
-    check_listed(
-        b,
-        at.sizes.nodes,
-        at.sizes.links,
-        at.sizes.ports,
-        area,
-        count,
-    )
+    check_listed(b, at, area, count)
 }
 
 // So many records as there is room for here, which is one for each line of the largest map.
@@ -77,15 +71,7 @@ fn write_intervals_bytes(
 {
     let whole = few_records(buffer.len() / 2 / 3);
     let mut room = record_room();
-    let written = write_intervals(
-        b,
-        at.sizes.nodes,
-        at.sizes.links,
-        at.sizes.ports,
-        area,
-        count,
-        &mut room[0..3 * whole],
-    );
+    let written = write_intervals(b, at, area, count, &mut room[0..3 * whole]);
     let IntervalsAnswer::Records(made) = written else {
         return written;
     };
@@ -117,15 +103,7 @@ pub fn intervals_of_list_bytes(
     let Taken::Nodes(count) = taken else {
         return IntervalsAnswer::Refused(list_refusal(taken));
     };
-    write_intervals_bytes(
-        b,
-        at.sizes.nodes,
-        at.sizes.links,
-        at.sizes.ports,
-        area,
-        count,
-        buffer,
-    )
+    write_intervals_bytes(b, at, area, count, buffer)
 }
 
 // Room for the longest path of the largest map: no node stands in it twice, unless its start is its end.
@@ -199,13 +177,5 @@ pub fn show_path_of_list_bytes(
     let Taken::Nodes(count) = taken else {
         return PathAnswer::Refused(list_refusal(taken));
     };
-    show_listed_bytes(
-        b,
-        at.sizes.nodes,
-        at.sizes.links,
-        at.sizes.ports,
-        area,
-        count,
-        buffer,
-    )
+    show_listed_bytes(b, at, area, count, buffer)
 }

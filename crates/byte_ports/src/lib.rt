@@ -14,6 +14,7 @@ use answers::LineAnswer;
 use answers::TopoAnswer;
 use byte_lists::check_list_bytes;
 use port_conflict::check_ports_bytes;
+use tables::Layout;
 use topo_checker::check_order_bytes;
 use with_ports::line_after_ports;
 use with_ports::order_after_ports;
@@ -36,16 +37,7 @@ pub fn check_list_with_ports_bytes(
 {
     let checked = check_list_bytes(b, at, area, list);
     let LineAnswer::Refused(_) = checked else {
-        let found = check_ports_bytes(
-            b,
-            at.sizes.nodes,
-            at.sizes.links,
-            at.sizes.ports,
-            area,
-            at.scratch,
-            inputs,
-            outputs,
-        );
+        let found = check_ports_bytes(b, at, area, inputs, outputs);
         return line_after_ports(found, checked);
     };
     checked
@@ -67,25 +59,9 @@ pub fn check_order_with_ports_bytes(
         (cond (conflict (now (b .entry)) (wordsFrom (now (inputs .entry))) (wordsFrom (now (outputs .entry)))) Reply.No
         (orderCheck (now (b .entry)) (now (area .entry)) (wordsFrom (now (list .entry))))) ⌝ }
 {
-    let checked = check_order_bytes(
-        b,
-        at.sizes.nodes,
-        at.sizes.links,
-        at.sizes.ports,
-        area,
-        list,
-    );
+    let checked = check_order_bytes(b, at, area, list);
     let TopoAnswer::Refused(_) = checked else {
-        let found = check_ports_bytes(
-            b,
-            at.sizes.nodes,
-            at.sizes.links,
-            at.sizes.ports,
-            area,
-            at.scratch,
-            inputs,
-            outputs,
-        );
+        let found = check_ports_bytes(b, at, area, inputs, outputs);
         return order_after_ports(found, checked);
     };
     checked

@@ -24,6 +24,7 @@ use Rattle.refusals.specs.declared.Refusal.the-variants.{BadRecord}
 use Rattle.records.specs.Tested.{Tested}
 use Rattle.records.specs.declared.Checked.the-variants.{Refused}
 use Rattle.records.proofs.Testing.{beyond}
+use Rattle.tables.proofs.Bridge.{by-numbers}
 use Rattle.tables.specs.declared.Layout.{Layout}
 use Rattle.tables.specs.Answered.{Answered}
 use Rattle.tables.specs.Usable.{Usable}
@@ -45,10 +46,10 @@ rule11-enough room m many h = ap (λ (t : Bool). refuse 11 (placed t many)) (go 
     go (yes l) = lt-ltb (min room m) many (omega arith) ∙ sym (lt-ltb room many l)
     go (no l) = le-ltb (min room m) many (omega arith) ∙ sym (le-ltb room many (omega arith))
 
-module _ {b a : List ℕ} {n l p : ℕ} (usable : Usable b a at) {ws : List ℕ} {count : ℕ} (within : count ≤ wholeRecords ws) {vs : List ℕ}
+module _ {b a : List ℕ} {at : Layout} (usable : Usable b a at) {ws : List ℕ} {count : ℕ} (within : count ≤ wholeRecords ws) {vs : List ℕ}
     (held : FirstRecords ws (min count 2561) vs) where
   few : K b a < 2561
-  few = omega (arith, count-few usable, usable .read .few-nodes, usable .read .few-links)
+  few = omega (arith, count-few (by-numbers usable), usable .read .few-nodes, usable .read .few-links)
 
   same-12 : rule12 b a vs (min count 2561) ≡ rule12 b a ws count
   same-12 = rule12-enough b a few count held within
@@ -77,7 +78,7 @@ module _ {b a : List ℕ} {n l p : ℕ} (usable : Usable b a at) {ws : List ℕ}
 
   -- ---- extend
 
-  module _ (room : wholeRecords vs ≡ min (wholeRecords ws) 2561) {v : ℕ} (known : v < n) where
+  module _ (room : wholeRecords vs ≡ min (wholeRecords ws) 2561) {v : ℕ} (known : v < at .sizes .nodes) where
     few-then : rule12 b a vs (min count 2561) ≡ passed → rule13 b a (recordsIn vs (min count 2561)) ≡ passed
         → needed (extend b a (recordsIn vs (min count 2561)) v) ≤ 2561
     few-then e f =
@@ -122,19 +123,19 @@ module _ {b a : List ℕ} {n l p : ℕ} (usable : Usable b a at) {ws : List ℕ}
 
 -- ---- records beyond the buffer
 
-pub beyond-bytes : (b a : List ℕ) (n l p : ℕ) (bytes : List ℕ) {count : ℕ} → length bytes / 2 / 3 < count
+pub beyond-bytes : (b a : List ℕ) (at : Layout) (bytes : List ℕ) {count : ℕ} → length bytes / 2 / 3 < count
     → Tested b a (at .sizes .nodes) (at .sizes .links) (at .sizes .ports) (wordsFrom bytes) count (Refused (BadRecord (length bytes / 2 / 3))) a
-beyond-bytes b a n l p bytes {count} h =
+beyond-bytes b a at bytes {count} h =
     subst (λ (k : ℕ). Tested b a (at .sizes .nodes) (at .sizes .links) (at .sizes .ports) (wordsFrom bytes) count (Refused (BadRecord (k / 3))) a) (length-wordsFrom bytes)
-    (beyond b a n l p (wordsFrom bytes) (omega (arith, length-wordsFrom bytes)))
+    (beyond b a (at .sizes .nodes) (at .sizes .links) (at .sizes .ports) (wordsFrom bytes) (omega (arith, length-wordsFrom bytes)))
 
 -- ---- the check of what was read
 
-pub check-read : {b a : List ℕ} {n l p : ℕ} → Usable b a at → {bytes : List ℕ} {count r : ℕ} {vs : List ℕ} → ReadRecords bytes count r vs → count ≢ 0
+pub check-read : {b a : List ℕ} {at : Layout} → Usable b a at → {bytes : List ℕ} {count r : ℕ} {vs : List ℕ} → ReadRecords bytes count r vs → count ≢ 0
     → {m : List ℕ} {x : Answer (Reply × ℕ)}
     → Answered at a m x (rule8 r ∷ rule12 b a vs r ∷ rule13 b a (recordsIn vs r) ∷ []) (walk b a (recordsIn vs r))
     → Answered at a m x (rule8 count ∷ rule12 b a (wordsFrom bytes) count ∷ rule13 b a (recordsIn (wordsFrom bytes) count) ∷ [])
     (walk b a (recordsIn (wordsFrom bytes) count))
-check-read {b} {a} {n} {l} {p} usable {vs = vs} read some {m} {x} got =
+check-read {b} {a} {at} usable {vs = vs} read some {m} {x} got =
     check-all usable (read .within) (read .held) some
     (subst (λ (k : ℕ). Answered at a m x (rule8 k ∷ rule12 b a vs k ∷ rule13 b a (recordsIn vs k) ∷ []) (walk b a (recordsIn vs k))) (read .is) got)

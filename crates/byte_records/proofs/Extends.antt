@@ -45,8 +45,8 @@ none-written (Extend.Records k) tag f e = absurd (miss (1 ∷ 2 ∷ []) 0 tt tag
 none-written Extend.NotExtendable tag f e = ap wordsOf (wrote-none f (answered-passed passed foundApart (said f) e .1))
 none-written (Extend.Refused x) tag f e = absurd (let z : _≡_ {A = ℕ} 0 1 = cc in omega arith)
 
-module _ {b a : List ℕ} {n l p : ℕ} (usable : Usable b a at) (bytes : List ℕ) (bytewise : Below 256 bytes) {count r : ℕ} {vs : List ℕ}
-    (read : ReadRecords bytes count r vs × (wholeRecords vs ≡ min (wholeRecords (wordsFrom bytes)) 2561)) {v : ℕ} (known : v < n) {m : List ℕ}
+module _ {b a : List ℕ} {at : Layout} (usable : Usable b a at) (bytes : List ℕ) (bytewise : Below 256 bytes) {count r : ℕ} {vs : List ℕ}
+    (read : ReadRecords bytes count r vs × (wholeRecords vs ≡ min (wholeRecords (wordsFrom bytes)) 2561)) {v : ℕ} (known : v < at .sizes .nodes) {m : List ℕ}
     (x : ExtendAnswer) {after : List ℕ}
     (got : AnsweredInto at a m (extendSaid x) (Rules b a vs r v) (said (extend b a (recordsIn vs r) v)) vs after (wordsOf (extend b a (recordsIn vs r) v))) where
   found : Records

@@ -31,7 +31,7 @@ Rules b a ws count room =
 last-passed : (u v : Ruling) (us : List Ruling) → passed ≡ decide (u ∷ v ∷ us) → passed ≡ decide us
 last-passed u v us e = head-passed v us (head-passed u (v ∷ us) e .1) .1
 
-module _ {b a : List ℕ} {n l p : ℕ} (usable : Usable b a at) {given : List ℕ} {count r : ℕ} {vs : List ℕ} (read : ReadRecords given count r vs)
+module _ {b a : List ℕ} {at : Layout} (usable : Usable b a at) {given : List ℕ} {count r : ℕ} {vs : List ℕ} (read : ReadRecords given count r vs)
     (bytes : List ℕ) (bytewise : Below 256 bytes) {nodes : List ℕ} (room : length nodes ≡ min (length (wordsFrom bytes)) 512) {m : List ℕ}
     (x : NodesAnswer) {after : List ℕ}
     (got : AnsweredInto at a m (nodesSaid x) (Rules b a vs r (length nodes)) (length (nodesIn b a (recordsIn vs r))) nodes after

@@ -33,13 +33,13 @@ answered-passed passed x y e = (refl, cc)
 answered-passed (refusal n v) x y e = absurd (let z : _≡_ {A = ℕ} 0 1 = cc in omega arith)
 
 -- words that stand as they stood leave the bytes as they were
-module _ {A : Type 0} {n l p : ℕ} {a m : List ℕ} {x : Answer A} {rules : List Ruling} {y : A} (bytes : List ℕ) (bytewise : Below 256 bytes) where
+module _ {A : Type 0} {at : Layout} {a m : List ℕ} {x : Answer A} {rules : List Ruling} {y : A} (bytes : List ℕ) (bytewise : Below 256 bytes) where
   pub into-bytes : {result : List ℕ} → AnsweredInto at a m x rules y (wordsFrom bytes) (wordsFrom bytes) result
       → AnsweredBytes at a m x rules y bytes bytes result
   into-bytes got =
       record { says = got .says; kept = got .kept; written = sym (read-and-put bytes bytewise) ∙ ap (putWords bytes) (got .written) }
 
-module _ {F A : Type 0} {rs ss : List Ruling} {f g : F} (alike : Alike rs ss f g) (told : F → A) (words : F → List ℕ) {n l p : ℕ} {a m : List ℕ}
+module _ {F A : Type 0} {rs ss : List Ruling} {f g : F} (alike : Alike rs ss f g) (told : F → A) (words : F → List ℕ) {at : Layout} {a m : List ℕ}
     {x : Answer A} {room after : List ℕ} (got : AnsweredInto at a m x rs (told f) room after (words f)) where
   pub says-all : x ≡ answer (decide ss) (told g)
   says-all = got .says ∙ same-answer alike told

@@ -20,6 +20,7 @@ use line_checker::extend::extend_records;
 use line_checker::line_check::check_by_records;
 use line_checker::nodes::nodes_of_records;
 use refusals::Refusal;
+use tables::Layout;
 use words::bytes::put_words;
 use words::bytes::words_from;
 
@@ -82,15 +83,7 @@ pub fn check_by_records_bytes(
     }
     let mut room = wide_room();
     let read = read_records(records, count, &mut room);
-    check_by_records(
-        b,
-        at.sizes.nodes,
-        at.sizes.links,
-        at.sizes.ports,
-        area,
-        &room,
-        read,
-    )
+    check_by_records(b, at, area, &room, read)
 }
 
 // Extends records in bytes by a node, in their own buffer: refusals 9, 12, 13, then 11.
@@ -112,7 +105,7 @@ pub fn extend_records_bytes(
         (now (records .entry)) (now (records .exit))
         (wordsOf (extend (now (b .entry)) (now (area .entry)) (recordsIn (wordsFrom (now (records .entry))) count) node)) ⌝ }
 {
-    if n <= node {
+    if at.sizes.nodes <= node {
         return ExtendAnswer::Refused(Refusal::Unknown(0));
     }
     let whole = records.len() / 2 / 3;
@@ -122,16 +115,7 @@ pub fn extend_records_bytes(
     let mut room = wide_room();
     let read = read_records(records, count, &mut room);
     let fit = at_most(whole, 2561);
-    let extended = extend_records(
-        b,
-        at.sizes.nodes,
-        at.sizes.links,
-        at.sizes.ports,
-        area,
-        &mut room[0..3 * fit],
-        read,
-        node,
-    );
+    let extended = extend_records(b, at, area, &mut room[0..3 * fit], read, node);
     let ExtendAnswer::Records(made) = extended else {
         return extended;
     };
@@ -166,16 +150,7 @@ pub fn nodes_of_records_bytes(
     let read = read_records(records, count, &mut room);
     let mut nodes = node_words();
     let fit = at_most(buffer.len() / 2, 512);
-    let found = nodes_of_records(
-        b,
-        at.sizes.nodes,
-        at.sizes.links,
-        at.sizes.ports,
-        area,
-        &room,
-        read,
-        &mut nodes[0..fit],
-    );
+    let found = nodes_of_records(b, at, area, &room, read, &mut nodes[0..fit]);
     let NodesAnswer::Nodes(made) = found else {
         return found;
     };

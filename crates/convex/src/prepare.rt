@@ -15,14 +15,9 @@ pub fn prepare(map: &[u8], area: &mut [u16]) -> Prepared
     ensures { λ r. ⌜ record { answer = preparedSaid r; area = now (area .exit) } ≡ prepare (now (map .entry)) (now (area .entry)) ⌝ }
 {
     let ordered = order_map(map, area);
-    let Ordered::Done {
-        nodes,
-        links,
-        ports,
-    } = ordered
-    else {
+    let Ordered::Done(at, links) = ordered else {
         return Prepared::Refused(refusal(ordered));
     };
-    let count = lay_lines(map, nodes, links, ports, area);
+    let count = lay_lines(map, at.sizes.nodes, at.sizes.links, at.sizes.ports, area);
     Prepared::Lines(count)
 }

@@ -19,10 +19,11 @@ use Rattle.paper.specs.Intervals.{Interval, Records, records, apart}
 use Rattle.paper.specs.Records.{recordAt, recordsIn, extend, extendLines}
 use Rattle.paper.specs.Refusals.{onLine}
 use Rattle.paper.specs.Calls.{wrote, said, wordsOf}
-use Rattle.tables.specs.UsableBy.{Usable, positionsAt, nodeStartsAt, linesAt, entriesOf}
+use Rattle.tables.specs.declared.Layout.{Layout}
+use Rattle.tables.specs.Usable.{Usable, entriesOf}
 use Rattle.tables.specs.Recorded.{Recorded, Unmarked, Marked, Slotted}
-use Rattle.tables.proofs.WordsBy.{count-few, position-is, lines-are, line-known}
-use Rattle.records.specs.Slots.{slotsAt, marksAt}
+use Rattle.tables.proofs.Words.{count-few, position-is, lines-are, line-known}
+use Rattle.records.specs.declared.layout.LineSlots.{LineSlots}
 use Rattle.records.proofs.Reasons.{is-good, same-record, few-records}
 use Rattle.extension.specs.declared.Extended.{Extended}
 use Rattle.extension.specs.declared.Extended.the-variants.{Records as Made, NotExtendable}
@@ -52,10 +53,10 @@ two-places xs i j o h few e =
     in
     omega (arith, there, place-new xs j h few)
 
-module _ {b a : List ℕ} {n l p : ℕ} (usable : Usable b a n l p) where
+module _ {b a : List ℕ} {at : Layout} (usable : Usable b a at) where
   -- ---- the lines of a node
 
-  module _ (v : ℕ) (known : v < n) where
+  module _ (v : ℕ) (known : v < at .sizes .nodes) where
     listed : (x : ℕ) → x < K b a → times x (linesOf b a v) ≡ one (member v (nodesOf b a x))
     listed x h = usable .tables .listed v (omega (arith, usable .read .nodes)) x h
 
@@ -74,12 +75,12 @@ module _ {b a : List ℕ} {n l p : ℕ} (usable : Usable b a n l p) where
 
   module _ {words : List ℕ} {count : ℕ} (recorded : Recorded b a words count) where
     -- so the copy fits into the room
-    pub few-given : count ≤ n + l
+    pub few-given : count ≤ at .sizes .nodes + at .sizes .links
     few-given = omega (arith, few-records b a words (recorded .good), count-few usable)
 
     -- ---- the records, copied
 
-    module _ (slotted : Slotted a words count (slotsAt n l) (marksAt n l) (K b a)) {room start : List ℕ} (copied : Copied words (3 * count) room start) where
+    module _ {slots : LineSlots} (slotted : Slotted a words count (slots .numbers) (slots .marks) (K b a)) {room start : List ℕ} (copied : Copied words (3 * count) room start) where
       same-line : (j : ℕ) → j < count → recordAt start j .line ≡ recordAt words j .line
       same-line j h = ap (λ (r : Interval). r .line) (copied-record count copied j h)
 
@@ -91,13 +92,13 @@ module _ {b a : List ℕ} {n l p : ℕ} (usable : Usable b a n l p) where
                 omega (arith, same-record b a words (recorded .good) i j (omega arith) h (sym (same-line i (omega arith)) ∙ e ∙ same-line j h));
           }
 
-      line-ahead : (x : ℕ) → x < K b a → Ahead b a n l start count x
+      line-ahead : (x : ℕ) → x < K b a → Ahead b a slots start count x
       line-ahead x k = record { slot = go (slotted .each x k); high = ends; upright = λ j h e. stands-upright j h }
         where
-          go : Unmarked a words count (marksAt n l) x ⊎ Marked a words count (slotsAt n l) (marksAt n l) x
-              → Unmarked a start count (marksAt n l) x ⊎ Marked a start count (slotsAt n l) (marksAt n l) x
+          go : Unmarked a words count (slots .marks) x ⊎ Marked a words count (slots .numbers) (slots .marks) x
+              → Unmarked a start count (slots .marks) x ⊎ Marked a start count (slots .numbers) (slots .marks) x
           go (inl bare) = inl (record { mark = bare .mark; none = λ j h e. bare .none j h (sym (same-line j h) ∙ e) })
-          go (inr has) = inr (record { mark = has .mark; known = has .known; line = same-line (getD a (slotsAt n l + x) 0) (has .known) ∙ has .line })
+          go (inr has) = inr (record { mark = has .mark; known = has .known; line = same-line (getD a (slots .numbers + x) 0) (has .known) ∙ has .line })
 
           ends : (j : ℕ) → j < count → recordAt start j .line ≡ x → onLine b a x (recordAt start j .highest) ≡ true
           ends j h e =
@@ -107,17 +108,17 @@ module _ {b a : List ℕ} {n l p : ℕ} (usable : Usable b a n l p) where
           stands-upright : (j : ℕ) → j < count → recordAt start j .lowest ≤ recordAt start j .highest
           stands-upright j h = subst (λ (r : Interval). r .lowest ≤ r .highest) (sym (copied-record count copied j h)) (is-good b a words j (recorded .good j h) .upright)
 
-      module _ {v : ℕ} (known : v < n) {lines : List ℕ} {q : ℕ} (are : lines ≡ entriesOf a (nodeStartsAt n) (linesAt n) v) (is : q ≡ getD a (positionsAt n + v) 0) where
+      module _ {v : ℕ} (known : v < at .sizes .nodes) {lines : List ℕ} {q : ℕ} (are : lines ≡ entriesOf a (at .begins) (at .lines) v) (is : q ≡ getD a (at .positions + v) 0) where
         lines-of : linesOf b a v ≡ lines
         lines-of = lines-are usable v ∙ sym are
 
         position-of : position b a v ≡ q
         position-of = position-is usable v ∙ sym is
 
-        pub lines-ready : q < 65536 → 3 * (n + l) ≤ length room → LinesReady b a n l lines start count q
-        lines-ready word fits = subst (λ (ls : List ℕ). LinesReady b a n l ls start count q) lines-of ready
+        pub lines-ready : q < 65536 → 3 * (at .sizes .nodes + at .sizes .links) ≤ length room → LinesReady b a at slots lines start count q
+        lines-ready word fits = subst (λ (ls : List ℕ). LinesReady b a at slots ls start count q) lines-of ready
           where
-            ready : LinesReady b a n l (linesOf b a v) start count q
+            ready : LinesReady b a at slots (linesOf b a v) start count q
             ready =
                 record {
                   own = own-lines;

@@ -16,31 +16,32 @@ use Rattle.paper.specs.Area.{K}
 use Rattle.paper.specs.Intervals.{Interval, records, apart}
 use Rattle.paper.specs.Records.{recordAt, recordsIn, along}
 use Rattle.paper.specs.Refusals.{onLine}
-use Rattle.tables.specs.UsableBy.{Usable}
+use Rattle.tables.specs.declared.Layout.{Layout}
+use Rattle.tables.specs.Usable.{Usable}
 use Rattle.tables.specs.Recorded.{Unmarked, Marked}
-use Rattle.tables.proofs.WordsBy.{count-few}
+use Rattle.tables.proofs.Words.{count-few}
 use Rattle.lookup.specs.Line.{Line, positionsOn}
 use Rattle.on_line.specs.Along.{nodesAlong, positionsAlong}
 use Rattle.on_line.proofs.Along.{handed, along-is, line-at}
-use Rattle.records.specs.Slots.{slotsAt, marksAt}
+use Rattle.records.specs.declared.layout.LineSlots.{LineSlots}
 use Rattle.records.proofs.Few.{no-more, room-left}
 use Rattle.extension.specs.Room.{recordOf, Put, Growing, Grew, OwnLines, LineReady, Changed, LineExtended}
 use Rattle.extension.specs.declared.Extended.the-variants.{Records as Made, NotExtendable}
 use Rattle.extension.proofs.Lines.{extend-new, extend-at, extend-not}
 
 -- no more records than lines
-pub few-made : {b a : List ℕ} {n l p : ℕ} → Usable b a n l p → {room : List ℕ} {made : ℕ} → OwnLines b a room made → made ≤ n + l
+pub few-made : {b a : List ℕ} {at : Layout} → Usable b a at → {room : List ℕ} {made : ℕ} → OwnLines b a room made → made ≤ at .sizes .nodes + at .sizes .links
 few-made {b} {a} usable {room} {made} own =
     omega (arith, no-more (λ j. recordAt room j .line) (K b a) made (own .known) (own .lone), count-few usable)
 
-module _ {b a : List ℕ} {n l p : ℕ} (usable : Usable b a n l p) {room : List ℕ} {made q x : ℕ} (ready : LineReady b a n l room made q x) {mark : ℕ} (is : mark ≡ getD a (marksAt n l + x) 0) where
+module _ {b a : List ℕ} {at : Layout} (usable : Usable b a at) {slots : LineSlots} {room : List ℕ} {made q x : ℕ} (ready : LineReady b a at slots room made q x) {mark : ℕ} (is : mark ≡ getD a (slots .marks + x) 0) where
   -- ---- no mark
 
   module _ (clear : mark ≡ 0) where
     free : (j : ℕ) → j < made → recordAt room j .line ≡ x → ⊥
     free = go (ready .ahead .slot)
       where
-        go : Unmarked a room made (marksAt n l) x ⊎ Marked a room made (slotsAt n l) (marksAt n l) x → (j : ℕ) → j < made → recordAt room j .line ≡ x → ⊥
+        go : Unmarked a room made (slots .marks) x ⊎ Marked a room made (slots .numbers) (slots .marks) x → (j : ℕ) → j < made → recordAt room j .line ≡ x → ⊥
         go (inl bare) = bare .none
         go (inr has) = absurd (omega (arith, has .mark))
 
@@ -84,11 +85,11 @@ module _ {b a : List ℕ} {n l p : ℕ} (usable : Usable b a n l p) {room : List
 
   -- ---- a mark
 
-  module _ (set : mark ≡ 0 → ⊥) {slot : ℕ} (which : slot ≡ getD a (slotsAt n l + x) 0) where
-    has : Marked a room made (slotsAt n l) (marksAt n l) x
+  module _ (set : mark ≡ 0 → ⊥) {slot : ℕ} (which : slot ≡ getD a (slots .numbers + x) 0) where
+    has : Marked a room made (slots .numbers) (slots .marks) x
     has = go (ready .ahead .slot)
       where
-        go : Unmarked a room made (marksAt n l) x ⊎ Marked a room made (slotsAt n l) (marksAt n l) x → Marked a room made (slotsAt n l) (marksAt n l) x
+        go : Unmarked a room made (slots .marks) x ⊎ Marked a room made (slots .numbers) (slots .marks) x → Marked a room made (slots .numbers) (slots .marks) x
         go (inl bare) = absurd (set (is ∙ bare .mark))
         go (inr told) = told
 
@@ -102,13 +103,13 @@ module _ {b a : List ℕ} {n l p : ℕ} (usable : Usable b a n l p) {room : List
     earlier j low h e = ready .own .lone j slot h slot-made (e ∙ sym slot-line)
 
     -- the line's nodes and the positions, as they are handed on
-    module _ {nodes : List ℕ} (are : nodes ≡ nodesAlong a n l x) where
+    module _ {nodes : List ℕ} (are : nodes ≡ nodesAlong a at x) where
       abbrev positions : List ℕ
-      positions = take (1 + n + n - (1 + n)) (drop (1 + n) a)
+      positions = take (at .positions + at .sizes .nodes - at .positions) (drop (at .positions) a)
 
       line-is : positionsOn nodes positions ≡ along b a x
       unfolding positionsAlong
-      line-is = ap₂ positionsOn are (handed a n) ∙ along-is usable x (ready .known)
+      line-is = ap₂ positionsOn are (handed a (at .positions) (at .sizes .nodes)) ∙ along-is usable x (ready .known)
 
       growing : Growing (along b a x) room slot q
       unfolding onLine
@@ -123,7 +124,7 @@ module _ {b a : List ℕ} {n l p : ℕ} (usable : Usable b a n l p) {room : List
 
       pub can-grow : Line nodes positions × Growing (positionsOn nodes positions) room slot q
       can-grow =
-          (subst₂ Line (sym are) (sym (handed a n)) (line-at usable x (ready .known) .line), subst (λ (line : List ℕ). Growing line room slot q) (sym line-is) growing)
+          (subst₂ Line (sym are) (sym (handed a (at .positions) (at .sizes .nodes))) (line-at usable x (ready .known) .line), subst (λ (line : List ℕ). Growing line room slot q) (sym line-is) growing)
 
       module _ {grown : Bool} {after : List ℕ} (grew : Grew (positionsOn nodes positions) room slot q grown after) where
         grew-along : Grew (along b a x) room slot q grown after

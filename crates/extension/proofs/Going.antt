@@ -11,7 +11,9 @@ use lib.Seq.{drop-cons}
 use Rattle.paper.specs.Intervals.{Records, records}
 use Rattle.paper.specs.Records.{recordsIn, extendLine, extendLines}
 use Rattle.paper.specs.Refusals.{onLine}
-use Rattle.tables.specs.UsableBy.{Usable}
+use Rattle.tables.specs.declared.Layout.{Layout}
+use Rattle.tables.specs.Usable.{Usable}
+use Rattle.records.specs.declared.layout.LineSlots.{LineSlots}
 use Rattle.extension.specs.declared.Extended.{Extended}
 use Rattle.extension.specs.declared.Extended.the-variants.{Records as Made, NotExtendable}
 use Rattle.extension.specs.Extended.{recordsLeft}
@@ -21,24 +23,24 @@ use Rattle.extension.proofs.Keeping.{own-still, ahead-still}
 use Rattle.extension.proofs.Extending.{few-made}
 
 -- after i lines `made` records stand in the room
-pub record Going (b a : List ℕ) (n l : ℕ) (lines start : List ℕ) (count p : ℕ) (room : List ℕ) (made i : ℕ) : Type 0 where
+pub record Going (b a : List ℕ) (at : Layout) (slots : LineSlots) (lines start : List ℕ) (count p : ℕ) (room : List ℕ) (made i : ℕ) : Type 0 where
   pub passed : i ≤ length lines
   pub own : OwnLines b a room made
-  pub ahead : (j : ℕ) → i ≤ j → j < length lines → Ahead b a n l room made (getD lines j 0)
+  pub ahead : (j : ℕ) → i ≤ j → j < length lines → Ahead b a slots room made (getD lines j 0)
   pub rest : extendLines b a p (drop i lines) (records (recordsIn room made)) ≡ extendLines b a p lines (records (recordsIn start count))
   pub long : length room ≡ length start
 
-module _ {b a : List ℕ} {n l : ℕ} {lines start : List ℕ} {count p : ℕ} (ready : LinesReady b a n l lines start count p) where
-  pub at-first : Going b a n l lines start count p start count 0
+module _ {b a : List ℕ} {at : Layout} {slots : LineSlots} {lines start : List ℕ} {count p : ℕ} (ready : LinesReady b a at slots lines start count p) where
+  pub at-first : Going b a at slots lines start count p start count 0
   at-first = record { passed = omega arith; own = ready .own; ahead = λ j low h. ready .ahead j h; rest = refl; long = refl }
 
-  module _ {room : List ℕ} {made i : ℕ} (going : Going b a n l lines start count p room made i) where
+  module _ {room : List ℕ} {made i : ℕ} (going : Going b a at slots lines start count p room made i) where
     module _ (h : i < length lines) {x : ℕ} (read : x ≡ getD lines i 0) where
-      pub line-ready : LineReady b a n l room made p x
+      pub line-ready : LineReady b a at slots room made p x
       line-ready =
           record {
             own = going .own;
-            ahead = subst (Ahead b a n l room made) (sym read) (going .ahead i (omega arith) h);
+            ahead = subst (Ahead b a slots room made) (sym read) (going .ahead i (omega arith) h);
             known = omega (arith, ready .known i h);
             here = subst (λ (y : ℕ). onLine b a y p ≡ true) (sym read) (ready .here i h);
             word = ready .word;
@@ -65,7 +67,7 @@ module _ {b a : List ℕ} {n l : ℕ} {lines start : List ℕ} {count p : ℕ} (
               long = extended .long ∙ going .long;
             }
 
-        pub goes : {c : ℕ} → r ≡ Made c → Going b a n l lines start count p after c (i + 1)
+        pub goes : {c : ℕ} → r ≡ Made c → Going b a at slots lines start count p after c (i + 1)
         goes {c} e =
             record {
               passed = omega arith;
@@ -78,7 +80,7 @@ module _ {b a : List ℕ} {n l : ℕ} {lines start : List ℕ} {count p : ℕ} (
             changed : Changed room made x after c
             changed = extended .changed c e
 
-    pub ends : {q : ℕ} → Usable b a n l q → length lines ≤ i → LinesExtended b a lines start count p (Made made) room
+    pub ends : Usable b a at → length lines ≤ i → LinesExtended b a lines start count p (Made made) room
     unfolding extendLines
     ends usable h =
         record {

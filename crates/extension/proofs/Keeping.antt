@@ -13,7 +13,7 @@ use Rattle.paper.specs.Intervals.{Interval}
 use Rattle.paper.specs.Records.{recordAt}
 use Rattle.paper.specs.Refusals.{onLine}
 use Rattle.tables.specs.Recorded.{Unmarked, Marked}
-use Rattle.records.specs.Slots.{slotsAt, marksAt}
+use Rattle.records.specs.declared.layout.LineSlots.{LineSlots}
 use Rattle.extension.specs.Room.{OwnLines, Ahead, Changed}
 
 module _ {room : List ℕ} {made x : ℕ} {after : List ℕ} {count : ℕ} (changed : Changed room made x after count) where
@@ -37,22 +37,22 @@ module _ {room : List ℕ} {made x : ℕ} {after : List ℕ} {count : ℕ} (chan
           let early : i < made = omega (arith, changed .most) in
           changed .free (omega (arith, g)) i early (sym (changed .lines i early) ∙ e ∙ new-line j h g)
 
-  pub ahead-still : {b a : List ℕ} {n l y : ℕ} → (y ≡ x → ⊥) → Ahead b a n l room made y → Ahead b a n l after count y
-  ahead-still {b} {a} {n} {l} {y} ne ahead = record { slot = go (ahead .slot); high = λ j h e. ends j h e (decLt j made) .0; upright = λ j h e. ends j h e (decLt j made) .1 }
+  pub ahead-still : {b a : List ℕ} {slots : LineSlots} {y : ℕ} → (y ≡ x → ⊥) → Ahead b a slots room made y → Ahead b a slots after count y
+  ahead-still {b} {a} {slots} {y} ne ahead = record { slot = go (ahead .slot); high = λ j h e. ends j h e (decLt j made) .0; upright = λ j h e. ends j h e (decLt j made) .1 }
     where
-      none-there : Unmarked a room made (marksAt n l) y → (j : ℕ) → j < count → Dec (j < made) → recordAt after j .line ≡ y → ⊥
+      none-there : Unmarked a room made (slots .marks) y → (j : ℕ) → j < count → Dec (j < made) → recordAt after j .line ≡ y → ⊥
       none-there free j h (yes g) e = free .none j g (sym (changed .lines j g) ∙ e)
       none-there free j h (no g) e = ne (sym e ∙ new-line j h g)
 
-      go : Unmarked a room made (marksAt n l) y ⊎ Marked a room made (slotsAt n l) (marksAt n l) y
-          → Unmarked a after count (marksAt n l) y ⊎ Marked a after count (slotsAt n l) (marksAt n l) y
+      go : Unmarked a room made (slots .marks) y ⊎ Marked a room made (slots .numbers) (slots .marks) y
+          → Unmarked a after count (slots .marks) y ⊎ Marked a after count (slots .numbers) (slots .marks) y
       go (inl free) = inl (record { mark = free .mark; none = λ j h. none-there free j h (decLt j made) })
       go (inr has) =
           inr (
           record {
             mark = has .mark;
             known = omega (arith, has .known, changed .least);
-            line = changed .lines (getD a (slotsAt n l + y) 0) (has .known) ∙ has .line;
+            line = changed .lines (getD a (slots .numbers + y) 0) (has .known) ∙ has .line;
           }
           )
 

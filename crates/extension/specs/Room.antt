@@ -11,8 +11,9 @@ use Rattle.paper.specs.Area.{K}
 use Rattle.paper.specs.Intervals.{Interval, records, apart}
 use Rattle.paper.specs.Records.{recordAt, recordsIn, grow, extendLine, extendLines}
 use Rattle.paper.specs.Refusals.{onLine}
+use Rattle.tables.specs.declared.Layout.{Layout}
 use Rattle.tables.specs.Recorded.{Unmarked, Marked}
-use Rattle.records.specs.Slots.{slotsAt, marksAt}
+use Rattle.records.specs.declared.layout.LineSlots.{LineSlots}
 use Rattle.extension.specs.declared.Extended.{Extended}
 use Rattle.extension.specs.declared.Extended.the-variants.{Records as Made}
 use Rattle.extension.specs.Extended.{recordsLeft}
@@ -52,19 +53,19 @@ pub record OwnLines (b a room : List ℕ) (made : ℕ) : Type 0 where
   pub lone : (i j : ℕ) → i < j → j < made → recordAt room i .line ≡ recordAt room j .line → ⊥
 
 -- line x is still as its mark and its slot tell, and a record on it ends on it, its lowest no higher than its highest
-pub record Ahead (b a : List ℕ) (n l : ℕ) (room : List ℕ) (made x : ℕ) : Type 0 where
-  pub slot : Unmarked a room made (marksAt n l) x ⊎ Marked a room made (slotsAt n l) (marksAt n l) x
+pub record Ahead (b a : List ℕ) (slots : LineSlots) (room : List ℕ) (made x : ℕ) : Type 0 where
+  pub slot : Unmarked a room made (slots .marks) x ⊎ Marked a room made (slots .numbers) (slots .marks) x
   pub high : (j : ℕ) → j < made → recordAt room j .line ≡ x → onLine b a x (recordAt room j .highest) ≡ true
   pub upright : (j : ℕ) → j < made → recordAt room j .line ≡ x → recordAt room j .lowest ≤ recordAt room j .highest
 
 -- what extending on line x asks
-pub record LineReady (b a : List ℕ) (n l : ℕ) (room : List ℕ) (made p x : ℕ) : Type 0 where
+pub record LineReady (b a : List ℕ) (at : Layout) (slots : LineSlots) (room : List ℕ) (made p x : ℕ) : Type 0 where
   pub own : OwnLines b a room made
-  pub ahead : Ahead b a n l room made x
+  pub ahead : Ahead b a slots room made x
   pub known : x < K b a
   pub here : onLine b a x p ≡ true
   pub word : p < 65536
-  pub fits : 3 * (n + l) ≤ length room
+  pub fits : 3 * (at .sizes .nodes + at .sizes .links) ≤ length room
 
 -- only a record on line x changed, and kept its line; or the line had none, and a new one is last
 pub record Changed (room : List ℕ) (made x : ℕ) (after : List ℕ) (count : ℕ) : Type 0 where
@@ -82,14 +83,14 @@ pub record LineExtended (b a room : List ℕ) (made p x : ℕ) (r : Extended) (a
 
 -- ---- the lines of a node
 
-pub record LinesReady (b a : List ℕ) (n l : ℕ) (lines room : List ℕ) (made p : ℕ) : Type 0 where
+pub record LinesReady (b a : List ℕ) (at : Layout) (slots : LineSlots) (lines room : List ℕ) (made p : ℕ) : Type 0 where
   pub own : OwnLines b a room made
-  pub ahead : (j : ℕ) → j < length lines → Ahead b a n l room made (getD lines j 0)
+  pub ahead : (j : ℕ) → j < length lines → Ahead b a slots room made (getD lines j 0)
   pub known : (j : ℕ) → j < length lines → getD lines j 0 < K b a
   pub here : (j : ℕ) → j < length lines → onLine b a (getD lines j 0) p ≡ true
   pub lone : (i j : ℕ) → i < j → j < length lines → getD lines i 0 ≡ getD lines j 0 → ⊥
   pub word : p < 65536
-  pub fits : 3 * (n + l) ≤ length room
+  pub fits : 3 * (at .sizes .nodes + at .sizes .links) ≤ length room
 
 pub record LinesExtended (b a lines room : List ℕ) (made p : ℕ) (r : Extended) (after : List ℕ) : Type 0 where
   pub says : recordsLeft r after ≡ extendLines b a p lines (records (recordsIn room made))

@@ -5,13 +5,15 @@ pub mod grow;
 ghost use Prim.Native.Nat.{_+_, _*_, _≤_, _<_};
 ghost use lib.ListN.{length};
 ghost use Rattle.paper.specs.Area.{K};
-ghost use Rattle.tables.specs.UsableBy.{Usable};
+ghost use Rattle.tables.specs.Usable.{Usable};
 ghost use Rattle.tables.specs.Recorded.{Recorded, Slotted};
-ghost use Rattle.records.specs.Slots.{marksAt, slotsAt};
+ghost use Rattle.records.specs.Slots.{SlotsFit};
 ghost use Rattle.extension.specs.Extended.{ExtendsTo};
 ghost use Rattle.extension.specs.Room.{Copied, LineExtended, LineReady, LinesExtended, LinesReady};
 use grow::grow_record;
 use grow::put_record;
+use records::layout::LineSlots;
+use tables::Layout;
 use tables::entries;
 use words::field::wide;
 use words::section::word_at;
@@ -37,27 +39,27 @@ fn copy_words(words: &[u16], taken: usize, room: &mut [u16])
 // Extends the `made` records in the room on line x: its own grows, given the part of the area with the line's nodes, or a new one comes last.
 fn extend_line(
     b: &[u8],
-    n: usize,
-    l: usize,
-    p: usize,
+    at: Layout,
     area: &[u16],
+    slots: LineSlots,
     room: &mut [u16],
     made: usize,
     pos: usize,
     x: usize,
 ) -> Extended
-    requires { ⌜ Usable (now b) (now area) n l p ⌝ }
-    requires { ⌜ LineReady (now b) (now area) n l (now room) made pos x ⌝ }
+    requires { ⌜ Usable (now b) (now area) at ⌝ }
+    requires { ⌜ SlotsFit at slots ⌝ }
+    requires { ⌜ LineReady (now b) (now area) at slots (now room) made pos x ⌝ }
     ensures { λ r. ⌜ LineExtended (now (b .entry)) (now (area .entry)) (now (room .entry)) made pos x r (now (room .exit)) ⌝ }
 {
-    if word_at(area, 3 + 6 * n + 5 * l + (n + l), x) == 0 {
+    if word_at(area, slots.marks, x) == 0 {
         put_record(room, made, x, pos, pos);
         return Extended::Records(made + 1);
     }
-    let slot = word_at(area, 3 + 6 * n + 5 * l, x);
-    let nodes = entries(area, 2 + 4 * n + 2 * l, 3 + 5 * n + 3 * l, x);
-    let first = 1 + n;
-    let end = 1 + n + n;
+    let slot = word_at(area, slots.numbers, x);
+    let nodes = entries(area, at.starts, at.along, x);
+    let first = at.positions;
+    let end = first + at.sizes.nodes;
     if !grow_record(nodes, &area[first..end], room, slot, pos) {
         return Extended::NotExtendable;
     }
@@ -67,24 +69,32 @@ fn extend_line(
 // Extends the records in the room on each of a node's lines. They are distinct, so no slot has to be set for a new record.
 fn extend_lines(
     b: &[u8],
-    n: usize,
-    l: usize,
-    p: usize,
+    at: Layout,
     area: &[u16],
+    slots: LineSlots,
     lines: &[u16],
     room: &mut [u16],
     count: usize,
     pos: usize,
 ) -> Extended
-    requires { ⌜ Usable (now b) (now area) n l p ⌝ }
-    requires { ⌜ LinesReady (now b) (now area) n l (now lines) (now room) count pos ⌝ }
+    requires { ⌜ Usable (now b) (now area) at ⌝ }
+    requires { ⌜ SlotsFit at slots ⌝ }
+    requires { ⌜ LinesReady (now b) (now area) at slots (now lines) (now room) count pos ⌝ }
     ensures { λ r. ⌜ LinesExtended (now (b .entry)) (now (area .entry)) (now (lines .entry)) (now (room .entry)) count pos r (now (room .exit)) ⌝ }
 {
     let mut made = count;
     let mut i = 0;
     while i < lines.len() {
-        let Extended::Records(next) = extend_line(b, n, l, p, area, room, made, pos, wide(lines[i]))
-        else {
+        let Extended::Records(next) = extend_line(
+            b,
+            at,
+            area,
+            slots,
+            room,
+            made,
+            pos,
+            wide(lines[i]),
+        ) else {
             return Extended::NotExtendable;
         };
         made = next;
@@ -96,23 +106,23 @@ fn extend_lines(
 // Extends `count` records by node v, in the room, so that "not extendable" leaves them unchanged.
 pub fn extend(
     b: &[u8],
-    n: usize,
-    l: usize,
-    p: usize,
+    at: Layout,
     area: &[u16],
+    slots: LineSlots,
     words: &[u16],
     count: usize,
     v: usize,
     room: &mut [u16],
 ) -> Extended
-    requires { ⌜ Usable (now b) (now area) n l p ⌝ }
+    requires { ⌜ Usable (now b) (now area) at ⌝ }
+    requires { ⌜ SlotsFit at slots ⌝ }
     requires { ⌜ Recorded (now b) (now area) (now words) count ⌝ }
-    requires { ⌜ Slotted (now area) (now words) count (slotsAt n l) (marksAt n l) (K (now b) (now area)) ⌝ }
-    requires { ⌜ (v < n) × (3 * (n + l) ≤ length (now room)) ⌝ }
+    requires { ⌜ Slotted (now area) (now words) count (slots .numbers) (slots .marks) (K (now b) (now area)) ⌝ }
+    requires { ⌜ (v < at .sizes .nodes) × (3 * (at .sizes .nodes + at .sizes .links) ≤ length (now room)) ⌝ }
     ensures { λ r. ⌜ ExtendsTo (now (b .entry)) (now (area .entry)) (now (words .entry)) count v (now (room .entry)) r (now (room .exit)) ⌝ }
 {
     copy_words(words, 3 * count, room);
-    let lines = entries(area, 1 + 2 * n, 2 + 3 * n, v);
-    let pos = word_at(area, 1 + n, v);
-    extend_lines(b, n, l, p, area, lines, room, count, pos)
+    let lines = entries(area, at.begins, at.lines, v);
+    let pos = word_at(area, at.positions, v);
+    extend_lines(b, at, area, slots, lines, room, count, pos)
 }

@@ -21,42 +21,44 @@ use Rattle.accepted_theory.specs.collecting.Collected.{countOn, fresh, linesIn,
 use Rattle.accepted_theory.proofs.collecting.Add.{add-new, add-there, slot-absent, slot-at}
 use Rattle.accepted_theory.proofs.collecting.Sized.{count-add, count-nowhere, sized-add, sized-room}
 use Rattle.tables.proofs.Within.{within-none, within-set}
+use Rattle.intervals.specs.declared.layout.MapRoom.{MapRoom}
 use Rattle.intervals.specs.Holds.{Adding, Became, Holds, intervalOf, putRecord, widenedTo}
 use Rattle.intervals.proofs.Buffer.{record-put, record-other}
 
 -- the area with one more on a line's count
-abbrev countedUp : ℕ → ℕ → List ℕ → ℕ → List ℕ
-countedUp k slots a line = set a (slots + k + line) (getD a (slots + k + line) 0 + 1)
+abbrev countedUp : MapRoom → List ℕ → ℕ → List ℕ
+countedUp room a line = set a (room .counts + line) (getD a (room .counts + line) 0 + 1)
 
-module _ (k slots : ℕ) (a rs : List ℕ) (made line pos : ℕ) (room : slots + (k + k) ≤ length a) (known : line < k) where
+module _ (room : MapRoom) (a rs : List ℕ) (made line pos : ℕ) (apart : room .slots + room .lines ≤ room .counts)
+    (fits : room .counts + room .lines ≤ length a) (known : line < room .lines) where
   -- one more on the line's count, in any area that has the same counts
-  count-more : (hs : List Held) → Holds hs k slots a rs made → (m : List ℕ) → ((x : ℕ) → x < k → getD m (slots + k + x) 0 ≡ getD (countedUp k slots a line) (slots + k + x) 0)
-      → (x : ℕ) → x < k → getD m (slots + k + x) 0 ≡ countOn (add pos line hs) x
+  count-more : (hs : List Held) → Holds hs room a rs made → (m : List ℕ) → ((x : ℕ) → x < room .lines → getD m (room .counts + x) 0 ≡ getD (countedUp room a line) (room .counts + x) 0)
+      → (x : ℕ) → x < room .lines → getD m (room .counts + x) 0 ≡ countOn (add pos line hs) x
   count-more hs holds m same x h = same x h ∙ here (ℕ-discrete x line) ∙ sym (count-add pos line hs x)
     where
-      here : Dec (x ≡ line) → getD (countedUp k slots a line) (slots + k + x) 0 ≡ countOn hs x + one (eqb x line)
+      here : Dec (x ≡ line) → getD (countedUp room a line) (room .counts + x) 0 ≡ countOn hs x + one (eqb x line)
       here (yes e) =
-          ap (λ (y : ℕ). getD (countedUp k slots a line) (slots + k + y) 0) e
-          ∙ getD-set-same a (slots + k + line) (getD a (slots + k + line) 0 + 1) 0 (omega arith)
+          ap (λ (y : ℕ). getD (countedUp room a line) (room .counts + y) 0) e
+          ∙ getD-set-same a (room .counts + line) (getD a (room .counts + line) 0 + 1) 0 (omega arith)
           ∙ omega (arith, holds .counted line known, ap (countOn hs) e, one-eq x line e)
       here (no ne) =
-          getD-set-other a (slots + k + line) (slots + k + x) (getD a (slots + k + line) 0 + 1) 0 (λ e. ne (omega arith))
+          getD-set-other a (room .counts + line) (room .counts + x) (getD a (room .counts + line) 0 + 1) 0 (λ e. ne (omega arith))
           ∙ omega (arith, holds .counted x h, one-ne x line ne)
 
-  line-known : (hs : List Held) → Holds hs k slots a rs made → (i : ℕ) → i < length hs → getD (linesIn hs) i 0 < k
+  line-known : (hs : List Held) → Holds hs room a rs made → (i : ℕ) → i < length hs → getD (linesIn hs) i 0 < room .lines
   line-known hs holds i h =
-      place-known k (linesIn hs) i (holds .sized .below) (omega (arith, length-map hs (λ x. x .interval .line)))
+      place-known (room .lines) (linesIn hs) i (holds .sized .below) (omega (arith, length-map hs (λ x. x .interval .line)))
 
   -- ---- a line that was never added
 
-  module _ (first : getD a (slots + k + line) 0 ≡ 0) where
+  module _ (first : getD a (room .counts + line) 0 ≡ 0) where
     abbrev fresh-area : List ℕ
-    fresh-area = set (countedUp k slots a line) (slots + line) made
+    fresh-area = set (countedUp room a line) (room .slots + line) made
 
     abbrev fresh-records : List ℕ
     fresh-records = putRecord rs made (intervalOf line pos pos)
 
-    module _ (hs : List Held) (holds : Holds hs k slots a rs made) where
+    module _ (hs : List Held) (holds : Holds hs room a rs made) where
       never : times line (linesIn hs) ≡ 0
       never = omega (arith, holds .sized .some line, holds .counted line known)
 
@@ -72,17 +74,17 @@ module _ (k slots : ℕ) (a rs : List ℕ) (made line pos : ℕ) (room : slots +
       lines-many : length (linesIn hs) ≡ length hs
       lines-many = length-map hs (λ h. h .interval .line)
 
-      new-room : made + 1 ≤ k
+      new-room : made + 1 ≤ room .lines
       new-room = omega (arith, grown-length, sized-room (sized-add (holds .sized) pos line known))
 
-      new-holds : 3 * k ≤ length rs → Holds (add pos line hs) k slots fresh-area fresh-records (made + 1)
+      new-holds : 3 * room .lines ≤ length rs → Holds (add pos line hs) room fresh-area fresh-records (made + 1)
       new-holds roomy =
           record {
             many = grown-length;
             records = λ i h. record-is i (decLt i made) (omega (arith, grown-length));
             slotted = λ i h. slot-is i (decLt i made) (omega (arith, grown-length));
             counted = count-more hs holds fresh-area
-                (λ x h. getD-set-other (countedUp k slots a line) (slots + line) (slots + k + x) made 0 (λ e. omega arith));
+                (λ x h. getD-set-other (countedUp room a line) (room .slots + line) (room .counts + x) made 0 (λ e. omega arith));
             sized = sized-add (holds .sized) pos line known;
           }
         where
@@ -102,7 +104,7 @@ module _ (k slots : ℕ) (a rs : List ℕ) (made line pos : ℕ) (room : slots +
               ∙ ap (λ (j : ℕ). getD (hs ++ (fresh pos line ∷ [])) j (fresh 0 0)) (last i l h ∙ sym (holds .many))
               ∙ getD-append-seam hs (fresh pos line) [] (fresh 0 0)))
 
-          slot-is : (i : ℕ) → Dec (i < made) → i < made + 1 → getD fresh-area (slots + getD (linesIn (add pos line hs)) i 0) 0 ≡ i
+          slot-is : (i : ℕ) → Dec (i < made) → i < made + 1 → getD fresh-area (room .slots + getD (linesIn (add pos line hs)) i 0) 0 ≡ i
           slot-is i (yes l) h =
               let inside : i < length hs = omega (arith, holds .many) in
               let other : getD (linesIn hs) i 0 ≡ line → ⊥ = λ e. omega (
@@ -112,22 +114,22 @@ module _ (k slots : ℕ) (a rs : List ℕ) (made line pos : ℕ) (room : slots +
                 ap (λ (x : ℕ). times x (linesIn hs)) e,
               )
               in
-              ap (λ (xs : List ℕ). getD fresh-area (slots + getD xs i 0) 0) grown-lines
-              ∙ ap (λ (x : ℕ). getD fresh-area (slots + x) 0) (List·getD-append (linesIn hs) (line ∷ []) 0 i (omega (arith, lines-many)))
-              ∙ getD-set-other (countedUp k slots a line) (slots + line) (slots + getD (linesIn hs) i 0) made 0 (λ e. other (omega arith))
-              ∙ getD-set-other a (slots + k + line) (slots + getD (linesIn hs) i 0) (getD a (slots + k + line) 0 + 1) 0
+              ap (λ (xs : List ℕ). getD fresh-area (room .slots + getD xs i 0) 0) grown-lines
+              ∙ ap (λ (x : ℕ). getD fresh-area (room .slots + x) 0) (List·getD-append (linesIn hs) (line ∷ []) 0 i (omega (arith, lines-many)))
+              ∙ getD-set-other (countedUp room a line) (room .slots + line) (room .slots + getD (linesIn hs) i 0) made 0 (λ e. other (omega arith))
+              ∙ getD-set-other a (room .counts + line) (room .slots + getD (linesIn hs) i 0) (getD a (room .counts + line) 0 + 1) 0
               (λ e. omega (arith, line-known hs holds i inside))
               ∙ holds .slotted i inside
           slot-is i (no l) h =
-              ap (λ (xs : List ℕ). getD fresh-area (slots + getD xs i 0) 0) grown-lines
-              ∙ ap (λ (j : ℕ). getD fresh-area (slots + getD (linesIn hs ++ (line ∷ [])) j 0) 0) (last i l h ∙ sym (holds .many) ∙ sym lines-many)
-              ∙ ap (λ (x : ℕ). getD fresh-area (slots + x) 0) (getD-append-seam (linesIn hs) line [] 0)
-              ∙ getD-set-same (countedUp k slots a line) (slots + line) made 0 (omega (arith, length-set a (slots + k + line) (getD a (slots + k + line) 0 + 1)))
+              ap (λ (xs : List ℕ). getD fresh-area (room .slots + getD xs i 0) 0) grown-lines
+              ∙ ap (λ (j : ℕ). getD fresh-area (room .slots + getD (linesIn hs ++ (line ∷ [])) j 0) 0) (last i l h ∙ sym (holds .many) ∙ sym lines-many)
+              ∙ ap (λ (x : ℕ). getD fresh-area (room .slots + x) 0) (getD-append-seam (linesIn hs) line [] 0)
+              ∙ getD-set-same (countedUp room a line) (room .slots + line) made 0 (omega (arith, length-set a (room .counts + line) (getD a (room .counts + line) 0 + 1)))
               ∙ sym (last i l h)
 
   -- ---- a line that was added before
 
-  module _ (hs : List Held) (holds : Holds hs k slots a rs made) (i : ℕ) (found : slot hs line ≡ at i) where
+  module _ (hs : List Held) (holds : Holds hs room a rs made) (i : ℕ) (found : slot hs line ≡ at i) where
     stands : FirstOf (λ j. eqb (getD (linesIn hs) j 0) line) (length (linesIn hs)) i
     stands = slot-at hs line i found
 
@@ -137,8 +139,8 @@ module _ (k slots : ℕ) (a rs : List ℕ) (made line pos : ℕ) (room : slots +
     line-is : getD (linesIn hs) i 0 ≡ line
     line-is = eqb-true (getD (linesIn hs) i 0) line (stands .passes)
 
-    place-is : getD a (slots + line) 0 ≡ i
-    place-is = ap (λ (x : ℕ). getD a (slots + x) 0) (sym line-is) ∙ holds .slotted i inside
+    place-is : getD a (room .slots + line) 0 ≡ i
+    place-is = ap (λ (x : ℕ). getD a (room .slots + x) 0) (sym line-is) ∙ holds .slotted i inside
 
     grown-there : add pos line hs ≡ set hs i (widened (getD hs i (fresh 0 0)) pos)
     grown-there = add-there pos line hs i (fresh 0 0) stands
@@ -151,7 +153,7 @@ module _ (k slots : ℕ) (a rs : List ℕ) (made line pos : ℕ) (room : slots +
     lines-there =
         ap linesIn grown-there ∙ map-set-same (λ h. h .interval .line) hs i (widened (getD hs i (fresh 0 0)) pos) (fresh 0 0) refl
 
-    widened-is : 3 * k ≤ length rs → (j : ℕ) → j ≡ i → recordAt (putRecord rs i (widenedTo pos (recordAt rs i))) j ≡ getD (add pos line hs) j (fresh 0 0) .interval
+    widened-is : 3 * room .lines ≤ length rs → (j : ℕ) → j ≡ i → recordAt (putRecord rs i (widenedTo pos (recordAt rs i))) j ≡ getD (add pos line hs) j (fresh 0 0) .interval
     unfolding widened
     widened-is roomy j e =
         ap (recordAt (putRecord rs i (widenedTo pos (recordAt rs i)))) e
@@ -163,14 +165,14 @@ module _ (k slots : ℕ) (a rs : List ℕ) (made line pos : ℕ) (room : slots +
         ∙ ap (λ (x : ℕ). getD (set hs i (widened (getD hs i (fresh 0 0)) pos)) x (fresh 0 0)) e
         ∙ getD-set-same hs i (widened (getD hs i (fresh 0 0)) pos) (fresh 0 0) inside))
 
-    there-holds : 3 * k ≤ length rs
-        → Holds (add pos line hs) k slots (countedUp k slots a line) (putRecord rs i (widenedTo pos (recordAt rs i))) made
+    there-holds : 3 * room .lines ≤ length rs
+        → Holds (add pos line hs) room (countedUp room a line) (putRecord rs i (widenedTo pos (recordAt rs i))) made
     there-holds roomy =
         record {
           many = long-there ∙ holds .many;
           records = λ j h. record-is j (ℕ-discrete j i) (omega (arith, long-there));
           slotted = λ j h. slot-is j (omega (arith, long-there));
-          counted = count-more hs holds (countedUp k slots a line) (λ x h. refl);
+          counted = count-more hs holds (countedUp room a line) (λ x h. refl);
           sized = sized-add (holds .sized) pos line known;
         }
       where
@@ -184,63 +186,67 @@ module _ (k slots : ℕ) (a rs : List ℕ) (made line pos : ℕ) (room : slots +
             ∙ ap (λ (x : Held). x .interval)
             (sym (ap (λ (xs : List Held). getD xs j (fresh 0 0)) grown-there ∙ getD-set-other hs i j (widened (getD hs i (fresh 0 0)) pos) (fresh 0 0) ne))
 
-        slot-is : (j : ℕ) → j < length hs → getD (countedUp k slots a line) (slots + getD (linesIn (add pos line hs)) j 0) 0 ≡ j
+        slot-is : (j : ℕ) → j < length hs → getD (countedUp room a line) (room .slots + getD (linesIn (add pos line hs)) j 0) 0 ≡ j
         slot-is j h =
-            ap (λ (xs : List ℕ). getD (countedUp k slots a line) (slots + getD xs j 0) 0) lines-there
-            ∙ getD-set-other a (slots + k + line) (slots + getD (linesIn hs) j 0) (getD a (slots + k + line) 0 + 1) 0
+            ap (λ (xs : List ℕ). getD (countedUp room a line) (room .slots + getD xs j 0) 0) lines-there
+            ∙ getD-set-other a (room .counts + line) (room .slots + getD (linesIn hs) j 0) (getD a (room .counts + line) 0 + 1) 0
             (λ e. omega (arith, line-known hs holds j h))
             ∙ holds .slotted j h
 
 -- ---- what adding needs and what it comes to
 
-module _ {k slots : ℕ} {a rs : List ℕ} {made line : ℕ} (pre : Adding k slots a rs made line) where
+module _ {room : MapRoom} {a rs : List ℕ} {made line : ℕ} (pre : Adding room a rs made line) where
   abbrev held : List Held
   held = pre .holding .held
 
-  pub fresh-room : getD a (slots + k + line) 0 ≡ 0 → made + 1 ≤ k
-  fresh-room first = new-room k slots a rs made line 0 (pre .holding .room) (pre .known) first held (pre .holding .holds)
+  apart : room .slots + room .lines ≤ room .counts
+  apart = pre .holding .apart
 
-  pub fresh-became : (pos : ℕ) → getD a (slots + k + line) 0 ≡ 0 → {ws : List ℕ} → ws ≡ putRecord rs made (intervalOf line pos pos)
-      → Became (add pos line) k slots a rs made (set (countedUp k slots a line) (slots + line) made) ws (made + 1)
+  pub fresh-room : getD a (room .counts + line) 0 ≡ 0 → made + 1 ≤ room .lines
+  fresh-room first = new-room room a rs made line 0 (pre .holding .apart) (pre .holding .inside) (pre .known) first held (pre .holding .holds)
+
+  pub fresh-became : (pos : ℕ) → getD a (room .counts + line) 0 ≡ 0 → {ws : List ℕ} → ws ≡ putRecord rs made (intervalOf line pos pos)
+      → Became (add pos line) room a rs made (set (countedUp room a line) (room .slots + line) made) ws (made + 1)
   fresh-became pos first e =
       record {
-        kept = within-set (within-set within-none (slots + k + line) (getD a (slots + k + line) 0 + 1) (omega arith) (omega (arith, pre .known)))
-            (slots + line) made (omega arith) (omega (arith, pre .known));
+        kept = within-set
+            (within-set within-none (room .counts + line) (getD a (room .counts + line) 0 + 1) (omega (arith, apart)) (omega (arith, apart, pre .known)))
+            (room .slots + line) made (omega arith) (omega (arith, apart, pre .known));
         long = ap length e ∙ length-sets rs (3 * made) (line ∷ (pos ∷ (pos ∷ [])));
         holds = λ hs holds.
-            subst (λ (ws : List ℕ). Holds (add pos line hs) k slots (set (countedUp k slots a line) (slots + line) made) ws (made + 1)) (sym e)
-            (new-holds k slots a rs made line pos (pre .holding .room) (pre .known) first hs holds (pre .holding .roomy));
+            subst (λ (ws : List ℕ). Holds (add pos line hs) room (set (countedUp room a line) (room .slots + line) made) ws (made + 1)) (sym e)
+            (new-holds room a rs made line pos (pre .holding .apart) (pre .holding .inside) (pre .known) first hs holds (pre .holding .roomy));
       }
 
   -- a line that was added has a record
-  found : (hs : List Held) → Holds hs k slots a rs made → (getD a (slots + k + line) 0 ≡ 0 → ⊥) → (s : Found) → slot hs line ≡ s → (i : ℕ) × (slot hs line ≡ at i)
+  found : (hs : List Held) → Holds hs room a rs made → (getD a (room .counts + line) 0 ≡ 0 → ⊥) → (s : Found) → slot hs line ≡ s → (i : ℕ) × (slot hs line ≡ at i)
   found hs holds some absent e =
       absurd (some (holds .counted line (pre .known) ∙ count-nowhere hs line (slot-absent hs line e)))
   found hs holds some (at i) e = (i, e)
 
   -- its slot is not the word that was written
-  slot-kept : getD (countedUp k slots a line) (slots + line) 0 ≡ getD a (slots + line) 0
+  slot-kept : getD (countedUp room a line) (room .slots + line) 0 ≡ getD a (room .slots + line) 0
   slot-kept =
-      getD-set-other a (slots + k + line) (slots + line) (getD a (slots + k + line) 0 + 1) 0 (λ e. omega (arith, pre .known))
+      getD-set-other a (room .counts + line) (room .slots + line) (getD a (room .counts + line) 0 + 1) 0 (λ e. omega (arith, apart, pre .known))
 
-  pub there-room : (getD a (slots + k + line) 0 ≡ 0 → ⊥) → {i : ℕ} → i ≡ getD (countedUp k slots a line) (slots + line) 0 → i < k
+  pub there-room : (getD a (room .counts + line) 0 ≡ 0 → ⊥) → {i : ℕ} → i ≡ getD (countedUp room a line) (room .slots + line) 0 → i < room .lines
   there-room some {i} is = go (found held (pre .holding .holds) some (slot held line) refl)
     where
-      go : (j : ℕ) × (slot held line ≡ at j) → i < k
+      go : (j : ℕ) × (slot held line ≡ at j) → i < room .lines
       go f =
           omega (
             arith,
             slot-kept,
-            place-is k slots a rs made line 0 (pre .holding .room) (pre .known) held (pre .holding .holds) (f .0) (f .1),
-            inside k slots a rs made line 0 (pre .holding .room) (pre .known) held (pre .holding .holds) (f .0) (f .1),
+            place-is room a rs made line 0 (pre .holding .apart) (pre .holding .inside) (pre .known) held (pre .holding .holds) (f .0) (f .1),
+            inside room a rs made line 0 (pre .holding .apart) (pre .holding .inside) (pre .known) held (pre .holding .holds) (f .0) (f .1),
             sized-room (pre .holding .holds .sized),
           )
 
-  pub there-became : (pos : ℕ) → (getD a (slots + k + line) 0 ≡ 0 → ⊥) → {i : ℕ} → i ≡ getD (countedUp k slots a line) (slots + line) 0
-      → {ws : List ℕ} → ws ≡ putRecord rs i (widenedTo pos (recordAt rs i)) → Became (add pos line) k slots a rs made (countedUp k slots a line) ws made
+  pub there-became : (pos : ℕ) → (getD a (room .counts + line) 0 ≡ 0 → ⊥) → {i : ℕ} → i ≡ getD (countedUp room a line) (room .slots + line) 0
+      → {ws : List ℕ} → ws ≡ putRecord rs i (widenedTo pos (recordAt rs i)) → Became (add pos line) room a rs made (countedUp room a line) ws made
   there-became pos some {i} is {ws} e =
       record {
-        kept = within-set within-none (slots + k + line) (getD a (slots + k + line) 0 + 1) (omega arith) (omega (arith, pre .known));
+        kept = within-set within-none (room .counts + line) (getD a (room .counts + line) 0 + 1) (omega (arith, apart)) (omega (arith, apart, pre .known));
         long = ap length e ∙ length-sets rs (3 * i) (widest .line ∷ (widest .lowest ∷ (widest .highest ∷ [])));
         holds = λ hs holds. go hs holds (found hs holds some (slot hs line) refl);
       }
@@ -248,11 +254,11 @@ module _ {k slots : ℕ} {a rs : List ℕ} {made line : ℕ} (pre : Adding k slo
       widest : Interval
       widest = widenedTo pos (recordAt rs i)
 
-      go : (hs : List Held) → Holds hs k slots a rs made → (j : ℕ) × (slot hs line ≡ at j)
-          → Holds (add pos line hs) k slots (countedUp k slots a line) ws made
+      go : (hs : List Held) → Holds hs room a rs made → (j : ℕ) × (slot hs line ≡ at j)
+          → Holds (add pos line hs) room (countedUp room a line) ws made
       go hs holds f =
           let here : f .0 ≡ i =
-          sym (is ∙ slot-kept ∙ place-is k slots a rs made line pos (pre .holding .room) (pre .known) hs holds (f .0) (f .1)) in
-          subst (λ (us : List ℕ). Holds (add pos line hs) k slots (countedUp k slots a line) us made)
+          sym (is ∙ slot-kept ∙ place-is room a rs made line pos (pre .holding .apart) (pre .holding .inside) (pre .known) hs holds (f .0) (f .1)) in
+          subst (λ (us : List ℕ). Holds (add pos line hs) room (countedUp room a line) us made)
           (ap (λ (j : ℕ). putRecord rs j (widenedTo pos (recordAt rs j))) here ∙ sym e)
-          (there-holds k slots a rs made line pos (pre .holding .room) (pre .known) hs holds (f .0) (f .1) (pre .holding .roomy))
+          (there-holds room a rs made line pos (pre .holding .apart) (pre .holding .inside) (pre .known) hs holds (f .0) (f .1) (pre .holding .roomy))

@@ -8,74 +8,57 @@ use mathlib.Core.List.{List, []}
 use lib.ListN.{length, getD, replicate, length-replicate, getD-replicate}
 use lib.Seq.{sets}
 use Rattle.lists.specs.Lists.{Distinct}
-use Rattle.lists.proofs.Sections.{part, length-part, getD-part, getD-sets-in, getD-sets-out, part-sets-out}
-use Rattle.paper.specs.Map.{N}
-use Rattle.accepted_theory.specs.collecting.Collected.{Listing, countOn}
-use Rattle.accepted_theory.proofs.collecting.Laws.{below-places, in-below}
+use Rattle.lists.proofs.Sections.{getD-sets-in, getD-sets-out, part-sets-out}
+use Rattle.accepted_theory.specs.collecting.Collected.{countOn}
 use Rattle.accepted_theory.proofs.collecting.Sized.{sized-none}
 use Rattle.tables.specs.Within.{Within}
-use Rattle.tables.specs.UsableBy.{Usable, Scratched, scratchAt, scratchSize}
+use Rattle.tables.specs.declared.Layout.{Layout}
+use Rattle.tables.specs.Placed.{scratchSize}
+use Rattle.tables.specs.Usable.{Usable, Scratched}
 use Rattle.tables.proofs.Within.{within-none, within-sets}
-use Rattle.tables.proofs.UsableBy.{still-usable}
-use Rattle.intervals.specs.Holds.{AddingNodes, Listed, slotsAt}
+use Rattle.tables.proofs.Usable.{still-usable}
+use Rattle.take_in.specs.Listed.{Listed, listIn}
+use Rattle.intervals.specs.declared.layout.MapRoom.{MapRoom}
+use Rattle.intervals.specs.Holds.{AddingNodes, MapFits}
 use Rattle.intervals.proofs.Nodes.{none-counted}
 
-module _ {b a : List ℕ} {n l p count : ℕ} (usable : Usable b a n l p) (listed : Listed a (scratchAt n l) count n) where
-  -- the list as a list of its own
-  pub long-list : length (part a (scratchAt n l) count) ≡ count
-  long-list = length-part a (scratchAt n l) count (omega (arith, listed .few, usable .room))
+module _ {b a : List ℕ} {at : Layout} {count : ℕ} (usable : Usable b a at) (listed : Listed a at count) {room : MapRoom} (fits : MapFits at room) where
+  module _ {c : List ℕ} (is : c ≡ sets a (room .counts) (replicate (room .lines) 0)) where
+    many-zeros : length (replicate {A = ℕ} (room .lines) 0) ≡ room .lines
+    many-zeros = length-replicate (room .lines) 0
 
-  pub listing : Listing b (part a (scratchAt n l) count)
-  listing =
-      record {
-        known =
-            in-below (N b) (part a (scratchAt n l) count)
-            (below-places (N b) (part a (scratchAt n l) count)
-            (λ i h. omega (
-              arith,
-              getD-part a (scratchAt n l) count i 0 (omega (arith, long-list)),
-              listed .known i (omega (arith, long-list)),
-              usable .read .nodes,
-            )));
-        distinct = listed .once;
-      }
-
-  module _ {c : List ℕ} (is : c ≡ sets a (slotsAt n l + (n + l)) (replicate (n + l) 0)) where
-    many-zeros : length (replicate {A = ℕ} (n + l) 0) ≡ n + l
-    many-zeros = length-replicate (n + l) 0
-
-    pub cleared-kept : Scratched n l p a c
+    pub cleared-kept : Scratched at a c
     cleared-kept =
-        subst (Within (scratchAt n l) (scratchSize n l p) a) (sym is)
-        (within-sets within-none (slotsAt n l + (n + l)) (replicate (n + l) 0) (omega arith) (omega (arith, many-zeros)))
+        subst (Within (at .scratch) (scratchSize (at .sizes)) a) (sym is)
+        (within-sets within-none (room .counts) (replicate (room .lines) 0) (omega (arith, fits)) (omega (arith, fits, many-zeros)))
 
-    pub cleared : Usable b c n l p
+    pub cleared : Usable b c at
     cleared = still-usable usable cleared-kept
 
-    pub same-list : part c (scratchAt n l) count ≡ part a (scratchAt n l) count
+    pub same-list : listIn c at count ≡ listIn a at count
     same-list =
-        ap (λ (m : List ℕ). part m (scratchAt n l) count) is
-        ∙ part-sets-out a (slotsAt n l + (n + l)) (replicate (n + l) 0) (scratchAt n l) count 0 (inl (omega (arith, listed .few)))
-        (omega (arith, listed .few, usable .room))
+        ap (λ (m : List ℕ). listIn m at count) is
+        ∙ part-sets-out a (room .counts) (replicate (room .lines) 0) (at .scratch) count 0 (inl (omega (arith, fits, listed .few)))
+        (omega (arith, listed .few, usable .placed .after-scratch, usable .room))
 
-    list-word : (i : ℕ) → i < count → getD c (scratchAt n l + i) 0 ≡ getD a (scratchAt n l + i) 0
+    list-word : (i : ℕ) → i < count → getD c (at .scratch + i) 0 ≡ getD a (at .scratch + i) 0
     list-word i h =
-        ap (λ (m : List ℕ). getD m (scratchAt n l + i) 0) is
-        ∙ getD-sets-out a (slotsAt n l + (n + l)) (replicate (n + l) 0) (scratchAt n l + i) 0 (inl (omega (arith, listed .few)))
+        ap (λ (m : List ℕ). getD m (at .scratch + i) 0) is
+        ∙ getD-sets-out a (room .counts) (replicate (room .lines) 0) (at .scratch + i) 0 (inl (omega (arith, fits, listed .few)))
 
-    no-count : (x : ℕ) → x < n + l → getD c (slotsAt n l + (n + l) + x) 0 ≡ countOn [] x
+    no-count : (x : ℕ) → x < room .lines → getD c (room .counts + x) 0 ≡ countOn [] x
     no-count x h =
-        ap (λ (m : List ℕ). getD m (slotsAt n l + (n + l) + x) 0) is
-        ∙ getD-sets-in a (slotsAt n l + (n + l)) (replicate (n + l) 0) x 0 (omega (arith, many-zeros)) (omega (arith, many-zeros, usable .room))
-        ∙ getD-replicate (n + l) x 0 0 h
+        ap (λ (m : List ℕ). getD m (room .counts + x) 0) is
+        ∙ getD-sets-in a (room .counts) (replicate (room .lines) 0) x 0 (omega (arith, many-zeros)) (omega (arith, fits, many-zeros, usable .placed .after-scratch, usable .room))
+        ∙ getD-replicate (room .lines) x 0 0 h
         ∙ sym (none-counted x)
 
-    pub can-add-nodes : (rs : List ℕ) → 3 * (n + l) ≤ length rs → AddingNodes n l c rs count
+    pub can-add-nodes : (rs : List ℕ) → 3 * (at .sizes .nodes + at .sizes .links) ≤ length rs → AddingNodes at room c rs count
     can-add-nodes rs roomy =
         record {
           bytes = b;
-          ports = p;
           usable = cleared;
+          fits = fits;
           listed =
               record {
                 few = listed .few;
@@ -88,7 +71,7 @@ module _ {b a : List ℕ} {n l p count : ℕ} (usable : Usable b a n l p) (liste
                 records = λ i h. absurd (omega arith);
                 slotted = λ i h. absurd (omega arith);
                 counted = no-count;
-                sized = sized-none (n + l);
+                sized = sized-none (room .lines);
               };
-          roomy = roomy;
+          roomy = omega (arith, fits .lines, roomy);
         }

@@ -9,5 +9,3 @@ pub mod Cleared
 pub mod Records
 pub mod Whole
 pub mod Said
-pub mod Taken
-pub mod Into

@@ -20,12 +20,14 @@ use Rattle.accepted_theory.proofs.collecting.Laws.{all-in, all-map, in-below}
 use Rattle.accepted_theory.proofs.collecting.Sized.{count-nodes, count-most-nodes, count-place, place-line, sized-room}
 use Rattle.accepted_theory.proofs.collecting.Collected.{collected, touched-known}
 use Rattle.accepted_theory.proofs.collecting.Intervals.{lowest-on-line}
-use Rattle.tables.specs.UsableBy.{Usable, Scratched}
-use Rattle.tables.proofs.WordsBy.{count-few}
-use Rattle.tables.proofs.UsableBy.{still-usable, tables-still}
+use Rattle.tables.specs.declared.Layout.{Layout}
+use Rattle.tables.specs.Usable.{Usable, Scratched}
+use Rattle.tables.proofs.Words.{count-few}
+use Rattle.tables.proofs.Usable.{still-usable, tables-still}
 use Rattle.on_line.specs.Along.{positionsAlong}
 use Rattle.on_line.proofs.Along.{along-is, line-at}
-use Rattle.intervals.specs.Holds.{Holds, slotsAt}
+use Rattle.intervals.specs.declared.layout.MapRoom.{MapRoom}
+use Rattle.intervals.specs.Holds.{Holds, MapFits}
 use Rattle.intervals.specs.Filling.{Tested, TestedAll, countAt, fillsAlong, fillsRecord}
 use Rattle.intervals.proofs.Nodes.{none-counted}
 
@@ -36,7 +38,7 @@ getD-made f (x ∷ xs) (suc i) d h = getD-made f xs i d (omega arith)
 
 -- ---- what is held, place by place
 
-module _ {b c : List ℕ} {n l p : ℕ} (usable : Usable b c n l p) (list : List ℕ) (listing : Listing b list) where
+module _ {b c : List ℕ} {at : Layout} (usable : Usable b c at) (list : List ℕ) (listing : Listing b list) where
   module _ (i : ℕ) (h : i < length (addNodes b c list [])) where
     abbrev place : Held
     place = getD (addNodes b c list []) i (fresh 0 0)
@@ -76,12 +78,12 @@ module _ {b c : List ℕ} {n l p : ℕ} (usable : Usable b c n l p) (list : List
 
   -- ---- the words that stand for it
 
-  module _ {m ws : List ℕ} {made : ℕ} (holds : Holds (addNodes b c list []) (n + l) (slotsAt n l) m ws made) (scratched : Scratched n l p c m) where
+  module _ {m ws : List ℕ} {room : MapRoom} {made : ℕ} (fits : MapFits at room) (holds : Holds (addNodes b c list []) room m ws made) (scratched : Scratched at c m) where
     same : SameTables b c m
     same = tables-still usable scratched
 
     -- the positions along a line, read from the area as it is now
-    positions-still : (x : ℕ) → x < K b c → positionsAlong m n l x ≡ map (position b c) (nodesOf b c x)
+    positions-still : (x : ℕ) → x < K b c → positionsAlong m at x ≡ map (position b c) (nodesOf b c x)
     positions-still x h =
         along-is (still-usable usable scratched) x (omega (arith, same .count)) ∙ ap (map (position b m)) (sym (same .nodes x h))
         ∙ sym (map-every (KnownNode b) (position b c) (position b m) (same .positions) (nodesOf b c x) (same .nodesKnown x h))
@@ -93,14 +95,14 @@ module _ {b c : List ℕ} {n l p : ℕ} (usable : Usable b c n l p) (list : List
       abbrev here : Held
       here = getD (addNodes b c list []) i (fresh 0 0)
 
-      line-few : here .interval .line < n + l
-      line-few = omega (arith, line-known i inside, count-few usable)
+      line-few : here .interval .line < room .lines
+      line-few = omega (arith, line-known i inside, count-few usable, fits .lines)
 
-      count-is : countAt m n l (here .interval .line) ≡ here .count
+      count-is : countAt m room (here .interval .line) ≡ here .count
       count-is =
           holds .counted (here .interval .line) line-few ∙ count-place (addNodes b c list []) (holds .sized .once) i inside (fresh 0 0)
 
-      here-tested : length list ≤ 512 → Tested m n l (here .interval .line) (here .interval .lowest) (countAt m n l (here .interval .line))
+      here-tested : length list ≤ 512 → Tested m at (here .interval .line) (here .interval .lowest) (countAt m room (here .interval .line))
       here-tested few =
           record {
             line = line-at (still-usable usable scratched) (here .interval .line) (omega (arith, line-known i inside, same .count));
@@ -116,25 +118,25 @@ module _ {b c : List ℕ} {n l p : ℕ} (usable : Usable b c n l p) (list : List
             small = omega (arith, holds .counted (here .interval .line) line-few, few-counted (here .interval .line));
           }
 
-      pub record-fills : fillsRecord m n l ws i ≡ fills b c here
+      pub record-fills : fillsRecord m at room ws i ≡ fills b c here
       unfolding fillsRecord fillsAlong fills
       record-fills =
-          ap (λ (r : Interval). fillsAlong (positionsAlong m n l (r .line)) (r .lowest) (r .highest) (countAt m n l (r .line))) (holds .records i inside)
-          ∙ ap₂ (λ (ps : List ℕ) (n : ℕ). fillsAlong ps (here .interval .lowest) (here .interval .highest) n)
+          ap (λ (r : Interval). fillsAlong (positionsAlong m at (r .line)) (r .lowest) (r .highest) (countAt m room (r .line))) (holds .records i inside)
+          ∙ ap₂ (λ (ps : List ℕ) (k : ℕ). fillsAlong ps (here .interval .lowest) (here .interval .highest) k)
           (positions-still (here .interval .line) (line-known i inside)) count-is
 
-    pub can-test-all : length list ≤ 512 → 3 * (n + l) ≤ length ws → TestedAll m n l ws made
+    pub can-test-all : length list ≤ 512 → 3 * room .lines ≤ length ws → TestedAll m at room ws made
     can-test-all few roomy i h =
         record {
-          room = omega (arith, usable .room, scratched .long);
+          inside = omega (arith, fits .after-counts, usable .placed .after-scratch, usable .room, scratched .long);
           whole = omega (arith, holds .many, sized-room (holds .sized));
           known = omega (arith, ap (λ (r : Interval). r .line) (holds .records i (inside i h)), line-few i h);
-          tested = subst (λ (r : Interval). Tested m n l (r .line) (r .lowest) (countAt m n l (r .line))) (sym (holds .records i (inside i h))) (here-tested i h few);
+          tested = subst (λ (r : Interval). Tested m at (r .line) (r .lowest) (countAt m room (r .line))) (sym (holds .records i (inside i h))) (here-tested i h few);
         }
 
-    pub all-fill : all (fillsRecord m n l ws) (upto made) ≡ all (fills b c) (addNodes b c list [])
+    pub all-fill : all (fillsRecord m at room ws) (upto made) ≡ all (fills b c) (addNodes b c list [])
     all-fill =
-        all-in (fillsRecord m n l ws) (λ i. fills b c (getD (addNodes b c list []) i (fresh 0 0))) (upto made)
+        all-in (fillsRecord m at room ws) (λ i. fills b c (getD (addNodes b c list []) i (fresh 0 0))) (upto made)
         (λ i h. record-fills i (in-below made (upto made) (λ k g. times-past k made g) i h))
         ∙ ap (λ (k : ℕ). all (λ i. fills b c (getD (addNodes b c list []) i (fresh 0 0))) (upto k)) (sym (holds .many))
         ∙ sym (all-map (fills b c) (λ i. getD (addNodes b c list []) i (fresh 0 0)) (upto (length (addNodes b c list []))))

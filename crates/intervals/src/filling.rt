@@ -6,9 +6,11 @@ ghost use Prim.Native.Nat.{_≤_, _<_};
 ghost use Rattle.lists.specs.Lists.{all, member, upto};
 ghost use Rattle.lookup.specs.Line.{Line, positionsOn};
 ghost use Rattle.intervals.specs.Filling.{TestedAll, TestedRecord, fillsAlong, fillsRecord};
+use crate::layout::MapRoom;
 use lookup::Index;
 use lookup::find_index;
 use lookup::position_at;
+use tables::Layout;
 use tables::entries;
 use words::field::wide;
 use words::section::word_at;
@@ -31,28 +33,28 @@ fn fills_line(nodes: &[u16], positions: &[u16], low: usize, high: usize, count: 
 }
 
 // Whether record i is filled: its line's nodes, the part of the area between two line starts, are given to the test.
-fn fills_record(area: &[u16], n: usize, l: usize, records: &[u16], i: usize) -> bool
-    requires { ⌜ TestedRecord (now area) n l (now records) i ⌝ }
-    ensures { λ r. ⌜ r ≡ fillsRecord (now (area .entry)) n l (now (records .entry)) i ⌝ }
+fn fills_record(area: &[u16], at: Layout, room: MapRoom, records: &[u16], i: usize) -> bool
+    requires { ⌜ TestedRecord (now area) at room (now records) i ⌝ }
+    ensures { λ r. ⌜ r ≡ fillsRecord (now (area .entry)) at room (now (records .entry)) i ⌝ }
 {
     let x = wide(records[3 * i]);
     let low = word_at(records, 3 * i, 1);
     let high = word_at(records, 3 * i, 2);
-    let count = word_at(area, 3 + 7 * n + 5 * l + (n + l), x);
-    let nodes = entries(area, 2 + 4 * n + 2 * l, 3 + 5 * n + 3 * l, x);
-    let first = 1 + n;
-    let end = 1 + n + n;
+    let count = word_at(area, room.counts, x);
+    let nodes = entries(area, at.starts, at.along, x);
+    let first = at.positions;
+    let end = first + at.sizes.nodes;
     fills_line(nodes, &area[first..end], low, high, count)
 }
 
 // Whether each of the `made` records is filled.
-pub fn all_filled(area: &[u16], n: usize, l: usize, records: &[u16], made: usize) -> bool
-    requires { ⌜ TestedAll (now area) n l (now records) made ⌝ }
-    ensures { λ r. ⌜ r ≡ all (fillsRecord (now (area .entry)) n l (now (records .entry))) (upto made) ⌝ }
+pub fn all_filled(area: &[u16], at: Layout, room: MapRoom, records: &[u16], made: usize) -> bool
+    requires { ⌜ TestedAll (now area) at room (now records) made ⌝ }
+    ensures { λ r. ⌜ r ≡ all (fillsRecord (now (area .entry)) at room (now (records .entry))) (upto made) ⌝ }
 {
     let mut i = 0;
     while i < made {
-        if !fills_record(area, n, l, records, i) {
+        if !fills_record(area, at, room, records, i) {
             return false;
         }
         i += 1;

@@ -8,7 +8,7 @@ use lib.ListN.{length, getD}
 use Rattle.paper.specs.Map.{firstPort, inLinks, outLinks}
 use Rattle.order_theory.proofs.Ports.{ports-below}
 use Rattle.counting_sort.specs.Sorted.{below}
-use Rattle.toposort.specs.Standing.{Spanned}
+use Rattle.neighbours.specs.Tabled.{Spanned}
 use Rattle.line_tables.specs.Layout.{nodeStartsAt, listsAt, firstsAt, outsAt, inStartsAt, outKeys, inKeys, startOf, entries}
 use Rattle.line_tables.specs.Spread.{Spread}
 use Rattle.line_tables.specs.Frontier.{nodeAt, Listing}

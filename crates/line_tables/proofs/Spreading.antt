@@ -20,13 +20,11 @@ use Rattle.order_theory.proofs.Ports.{ports-below}
 use Rattle.order_theory.proofs.Refusals.{sound}
 use Rattle.counting_sort.specs.Sorted.{below, startsBy, sortedBy}
 use Rattle.counting_sort.proofs.Counting.{below-length}
-use Rattle.neighbours.specs.Tabled.{Tabled, Roomy, byPort}
+use Rattle.neighbours.specs.Tabled.{Tabled, Roomy, Spanned, byPort}
 use Rattle.neighbours.proofs.Writing.{target-below}
 use Rattle.lines_theory.proofs.Starts.{starts-first, starts-next, starts-last, starts-later}
 use Rattle.lines_theory.proofs.Prepared.{tables-sized}
 use Rattle.stepmap.specs.Formed.{ReadWell}
-use Rattle.toposort.specs.Laid.{startsAt, sortedAt}
-use Rattle.toposort.specs.Standing.{Spanned}
 use Rattle.line_tables.specs.Laying.{Laying}
 use Rattle.line_tables.specs.Layout.{nodeStartsAt, listsAt, firstsAt, portsAt, topsAt, outSortedAt, outsAt, inStartsAt, inSortedAt, outKeys, inKeys, startOf, entries}
 use Rattle.line_tables.specs.Spread.{Spread}
@@ -193,25 +191,17 @@ module _ {b a₀ : List ℕ} {n l p : ℕ} (ly : Laying b a₀ n l p) where
       unfolding startsBy
       top₂ q h =
           same₂ (topsAt n l + q) (inr (omega arith)) (inl (omega arith))
-          ∙ ap (λ (k : ℕ). getD a₀ k 0) at-starts
-          ∙ sym (getD-part a₀ (startsAt n l) (p + 1) q 0 (omega arith))
+          ∙ sym (getD-part a₀ (topsAt n l) (p + 1) q 0 (omega arith))
           ∙ ap (λ (m : List ℕ). getD m q 0) (ly .starts-stand)
           ∙ getD-table (below (map (sourcePort b) (upto l))) (suc p) q 0 (omega arith)
           ∙ ap (λ (xs : List ℕ). below xs q) out-keys
-        where
-          at-starts : topsAt n l + q ≡ startsAt n l + q
-          at-starts = omega arith
 
       sorted₂ : (i : ℕ) → i < l → getD a₂ (outSortedAt n l p + i) 0 ≡ getD (sortedBy (outKeys b) (P b)) i 0
       sorted₂ i h =
           same₂ (outSortedAt n l p + i) (inr (omega arith)) (inl (omega arith))
-          ∙ ap (λ (k : ℕ). getD a₀ k 0) at-sorted
-          ∙ sym (getD-part a₀ (sortedAt n l p) l i 0 h)
+          ∙ sym (getD-part a₀ (outSortedAt n l p) l i 0 h)
           ∙ ap (λ (m : List ℕ). getD m i 0) (ly .sorted-stand)
           ∙ ap₂ (λ (xs : List ℕ) (q : ℕ). getD (sortedBy xs q) i 0) out-keys (sym (read .ports))
-        where
-          at-sorted : outSortedAt n l p + i ≡ sortedAt n l p + i
-          at-sorted = omega arith
 
       in-start₂ : (q : ℕ) → q ≤ p → getD a₂ (inStartsAt n l p + q) 0 ≡ below (inKeys b) q
       in-start₂ q h =

@@ -13,7 +13,7 @@ use Rattle.lists.proofs.Sections.{getD-sets-out, sets-next}
 use Rattle.lists.proofs.Upto.{length-table, table-suc}
 use Rattle.paper.specs.Lines.{newLines}
 use Rattle.lines_theory.proofs.Pushing.{enough}
-use Rattle.toposort.specs.Standing.{Spanned}
+use Rattle.neighbours.specs.Tabled.{Spanned}
 use Rattle.line_tables.specs.Widths.{linksFrom, Starting, widthAt, widthsBefore, Spaced, Widths}
 
 -- one more entry of a table

@@ -1,12 +1,21 @@
 -- Where each section starts in the area of a map of n nodes, l links and p ports, while the lines are laid.
--- Rests on 01's lengths of the sections (paper, Area); the first four of the scratch stand where ordering left them (toposort, Laid).
-use Prim.Native.Nat.{ℕ, _+_, _*_}
+-- Rests on 01's lengths of the sections (paper, Area); the first four of the scratch stand where ordering left them.
+use Prim.Native.Nat.{ℕ, _+_, _*_, _≤_}
+use mathlib.Core.Path.{_≡_}
 use mathlib.Core.List.{List, map}
-use lib.ListN.{getD}
+use lib.ListN.{length, getD}
 use Rattle.lists.specs.Lists.{upto}
 use Rattle.paper.specs.Map.{L, sourcePort, targetPort}
 use Rattle.paper.specs.Lines.{tables}
 use Rattle.paper.specs.Area.{starts}
+use Rattle.paper.specs.Refusals.{passed, rule45}
+use Rattle.stepmap.specs.Formed.{ReadWell}
+
+-- a map that passes 1, 2, 4 and 5, and an area that passes 3
+pub record Ready (b a : List ℕ) (n l p : ℕ) : Type 0 where
+  pub read : ReadWell b n l p
+  pub links : rule45 b ≡ passed
+  pub room : 7 + 10 * n + 9 * l + 2 * p ≤ length a
 
 abbrev pub positionsAt : ℕ → ℕ
 positionsAt n = 1 + n

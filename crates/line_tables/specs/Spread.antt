@@ -8,8 +8,7 @@ use Rattle.paper.specs.Map.{firstPort, sourcePort, inLinks, outLinks}
 use Rattle.paper.specs.Order.{order}
 use Rattle.paper.specs.Refusals.{passed, rule6}
 use Rattle.counting_sort.specs.Sorted.{below}
-use Rattle.toposort.specs.Laid.{Ready}
-use Rattle.line_tables.specs.Layout.{nodeStartsAt, listsAt, firstsAt, portsAt, topsAt, outSortedAt, outsAt, inStartsAt, inSortedAt, stackAt, outKeys, inKeys, startOf, entries}
+use Rattle.line_tables.specs.Layout.{Ready, nodeStartsAt, listsAt, firstsAt, portsAt, topsAt, outSortedAt, outsAt, inStartsAt, inSortedAt, stackAt, outKeys, inKeys, startOf, entries}
 
 pub record Spread (b a : List ℕ) (n l p : ℕ) : Type 0 where
   pub ready : Ready b a n l p

@@ -4,7 +4,7 @@ use Prim.Native.Nat.{ℕ, zero, suc, _+_, _-_, _≤_, _<_}
 use mathlib.Core.List.{List}
 use lib.ListN.{length, getD}
 use Rattle.paper.specs.Lines.{newLines}
-use Rattle.toposort.specs.Standing.{Spanned}
+use Rattle.neighbours.specs.Tabled.{Spanned}
 
 -- where the links of node v start: at its first port
 abbrev pub linksFrom : List ℕ → ℕ → ℕ → ℕ → ℕ

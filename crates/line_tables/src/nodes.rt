@@ -11,7 +11,7 @@ use super::frontier::create_new_lines;
 use super::frontier::new_lines;
 use super::frontier::push_lines;
 use super::frontier::take_lines;
-use toposort::turns::links_start;
+use neighbours::by_port::links_start;
 use words::section::word_at;
 
 // Where the list of node t of the order starts.

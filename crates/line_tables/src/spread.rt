@@ -10,8 +10,8 @@ ghost use Rattle.line_tables.specs.Laying.{Laying};
 ghost use Rattle.line_tables.specs.Spreading.{Spreads};
 use super::frontier::new_lines;
 use neighbours::by_port::links_by_input;
+use neighbours::by_port::links_start;
 use neighbours::keys::source_keys;
-use toposort::turns::links_start;
 use words::section::word_at;
 
 // Writes where the links of each of n nodes start, and where the last one's end, to `into`.

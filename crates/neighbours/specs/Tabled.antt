@@ -1,9 +1,9 @@
 -- What the sort of the links asks: a sound map, its first ports in one section of the area, and room for the keys after it.
 -- Rests on paper and stepmap's ReadWell.
-use Prim.Native.Nat.{ℕ, _+_, _≤_}
+use Prim.Native.Nat.{ℕ, _+_, _≤_, _<_}
 use mathlib.Core.Path.{_≡_}
 use mathlib.Core.List.{List, map}
-use lib.ListN.{length, take, drop}
+use lib.ListN.{length, getD, take, drop}
 use lib.Seq.{sets}
 use Rattle.lists.specs.Lists.{upto}
 use Rattle.counting_sort.specs.Sorted.{startsBy, sortedBy}
@@ -29,3 +29,8 @@ pub record Roomy (b a : List ℕ) (n l p firsts keys starts sorted : ℕ) : Type
 -- the links by port and listing order, for the port that each link starts or ends at: where each port starts, and the links
 unfoldable pub byPort : List ℕ → ℕ → ℕ → ℕ → List ℕ → ℕ → List ℕ
 byPort a keys starts sorted ks p = sets (sets (sets a keys ks) starts (startsBy ks p)) sorted (sortedBy ks p)
+
+-- a node's first port stands at `firsts`, and where its links start at `starts`
+pub record Spanned (a : List ℕ) (firsts starts v : ℕ) : Type 0 where
+  pub first-inside : firsts + v < length a
+  pub start-inside : starts + getD a (firsts + v) 0 < length a

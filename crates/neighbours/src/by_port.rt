@@ -1,12 +1,15 @@
 // The links of a step map by output port and by input port, each in listing order: one counting sort each, into the lent area.
 ghost use mathlib.Core.Path.{_≡_};
 ghost use mathlib.Core.List.{map};
+ghost use Prim.Native.Nat.{_+_};
+ghost use lib.ListN.{getD};
 ghost use Rattle.lists.specs.Lists.{upto};
 ghost use Rattle.paper.specs.Map.{sourcePort, targetPort};
-ghost use Rattle.neighbours.specs.Tabled.{Roomy, byPort};
+ghost use Rattle.neighbours.specs.Tabled.{Roomy, Spanned, byPort};
 use super::keys::source_keys;
 use super::keys::target_keys;
 use counting_sort::count_sort;
+use words::field::wide;
 
 // Lists the links by output port, then listing order: where each port starts goes to `starts`, the links to `sorted`.
 pub fn links_by_output(
@@ -44,4 +47,13 @@ pub fn links_by_input(
 {
     target_keys(b, n, l, p, area, firsts, keys);
     count_sort(area, keys, l, starts, p, sorted);
+}
+
+// Where the links of node v start among the links by port; those of the node before it end there.
+pub fn links_start(area: &[u16], firsts: usize, starts: usize, v: usize) -> usize
+    requires { ⌜ Spanned (now area) firsts starts v ⌝ }
+    ensures { λ r. ⌜ r ≡ getD (now (area .entry)) (starts + getD (now (area .entry)) (firsts + v) 0) 0 ⌝ }
+{
+    let first = wide(area[firsts + v]);
+    wide(area[starts + first])
 }

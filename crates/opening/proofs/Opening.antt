@@ -21,7 +21,6 @@ use Rattle.refusals.specs.declared.Refusal.the-variants.{NoRoom}
 use Rattle.refusals.proofs.Answers.{meant, meant-back}
 use Rattle.stepmap.specs.Formed.{ReadWell}
 use Rattle.stepmap.specs.declared.read.Sizes.{Sizes}
-use Rattle.stepmap.proofs.Known.{well-at}
 use Rattle.tables.specs.Placed.{LaidOut, Placed}
 use Rattle.tables.specs.declared.Layout.{Layout}
 use Rattle.tables.proofs.Placed.{places}
@@ -70,9 +69,8 @@ pub bad-link : (b a : List ℕ) (at : Layout) (x : Refusal) → ruled x ≡ rule
 bad-link b a at x e = refused-said (here e (rule7 b a ∷ [])) at
 
 -- sound links let the tables be tested
-pub testable : {b a : List ℕ} {at : Layout} → Roomy b a at → passed ≡ rule45 b → Testable b a (at .sizes .nodes) (at .sizes .links)
-testable {b} ready e =
-    record { read = well-at (ready .laid .read); links = sym e; room = omega (arith, ready .room, ready .laid .read, ready .laid .placed .whole, W-sum b) }
+pub testable : {b a : List ℕ} {at : Layout} → Roomy b a at → passed ≡ rule45 b → Testable b a at
+testable ready e = record { read = ready .laid .read; placed = ready .laid .placed; links = sym e; room = ready .room }
 
 module _ (b a : List ℕ) (at : Layout) (sound : passed ≡ rule45 b) {r : Bool} (is : r ≡ accepted b a) where
   ruled-7 : {t : Bool} → not r ≡ t → refuse 7 (placed t 0) ≡ decide (rule45 b ∷ rule7 b a ∷ [])

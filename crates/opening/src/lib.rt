@@ -34,7 +34,7 @@ fn test_tables(b: &[u8], at: Layout, area: &[u16]) -> Opened
     let Links::Sound = found else {
         return Opened::Refused(link_refusal(found));
     };
-    if !accepted(b, at.sizes.nodes, at.sizes.links, area) {
+    if !accepted(b, at, area) {
         return Opened::Refused(Refusal::NotAccepted);
     }
     Opened::Ready(at)

@@ -1,12 +1,11 @@
--- The answer on two lists of ports: 14 for the inputs, then for the outputs, then whether the first links meet.
--- Rests on Conflict, Passing and tables' Within.
-use Prim.Native.Nat.{ℕ, _+_, _*_, _≤_, _<_}
+-- The answer on two lists of ports: 14 from marking them, and else whether the first links meet.
+-- Rests on Conflict, Passing, Said and tables' Within.
+use Prim.Native.Nat.{ℕ, _+_, _≤_, _<_}
 use native.Mathlib.Omega.{arith}
-use mathlib.Core.Path.{_≡_, refl, sym, ap, _∙_, subst}
-use mathlib.Core.Logic.{inl}
+use mathlib.Core.Path.{_≡_, refl, sym, ap, ap₂, _∙_, subst}
+use mathlib.Core.Logic.{inr}
 use mathlib.Core.Bool.{Bool, false}
 use mathlib.Core.List.{List, [], _∷_, map}
-use lib.Dec.{leb}
 use lib.ListN.{length, getD}
 use lib.Seq.{sets}
 use Rattle.lists.specs.Lists.{upto, any, member}
@@ -16,149 +15,105 @@ use Rattle.lists.proofs.Upto.{length-table, getD-table}
 use Rattle.paper.specs.Map.{firstPort}
 use Rattle.paper.specs.Calls.{portRules}
 use Rattle.paper.specs.Ports.{conflict}
-use Rattle.paper.specs.Refusals.{Ruling, passed, refusal, Answer, answered, answer, decide, refuse, earliest, rule14, rule45}
+use Rattle.paper.specs.Refusals.{Ruling, passed, refusal, Answer, answered, answer, decide, rule14}
 use Rattle.order_theory.proofs.Refusals.{sound}
 use Rattle.neighbours.proofs.Writing.{source-below, target-below}
-use Rattle.stepmap.specs.Formed.{ReadWell}
+use Rattle.tables.specs.declared.Layout.{Layout}
+use Rattle.tables.specs.Answered.{Answered}
+use Rattle.tables.specs.Placed.{scratchSize}
+use Rattle.tables.specs.Usable.{Usable, Scratched}
 use Rattle.tables.specs.Within.{Within}
+use Rattle.tables.proofs.Usable.{still-usable}
 use Rattle.tables.proofs.Within.{within-none, within-both, within-sets, within-wider}
+use Rattle.port_conflict.specs.declared.PortsFound.{PortsFound}
+use Rattle.port_conflict.specs.declared.PortsFound.the-variants.{Clear}
+use Rattle.port_conflict.specs.declared.room.PortRoom.{PortRoom}
 use Rattle.port_conflict.specs.FirstLinks.{meets}
-use Rattle.port_conflict.specs.Marks.{marked, inputMarks, outputMarks, ListMarked, Laid, LinksPassed, PortsChecked}
+use Rattle.port_conflict.specs.Marks.{marked, unknownPort, ListsMarked, Laid, LinksPassed}
+use Rattle.port_conflict.specs.Room.{Fits}
+use Rattle.port_conflict.specs.Said.{portsSaid, afterMarks, LinksLooked}
 use Rattle.port_conflict.proofs.Conflict.{conflict-by-links}
 use Rattle.port_conflict.proofs.Passing.{meets-same}
+use Rattle.port_conflict.proofs.Said.{known-refused, known-clear}
 use Rattle.port_conflict.proofs.Written.{marked-outside}
 
--- ---- one rule at the head of others
+-- ---- tests that agree on all ports agree on all links
 
-refused-here : (r : Ruling) (rules : List Ruling) (x : Bool) {said : Answer Bool} → said ≡ answer r false → (said ≡ answered false → ⊥)
-    → said ≡ answer (decide (r ∷ rules)) x
-unfolding answer decide
-refused-here passed rules x e no-answer = absurd (no-answer e)
-refused-here (refusal n place) rules x e no-answer = e
+module _ {b a : List ℕ} {at : Layout} (usable : Usable b a at) (f g f' g' : ℕ → Bool) where
+  links-same : ((q : ℕ) → q < at .sizes .ports → f q ≡ f' q) → ((q : ℕ) → q < at .sizes .ports → g q ≡ g' q)
+      → any (meets b f g) (upto (at .sizes .links)) ≡ any (meets b f' g') (upto (at .sizes .links))
+  links-same fs gs =
+      any-same (meets b f g) (meets b f' g') (at .sizes .links)
+      (λ k h. meets-same b f g f' g' (at .sizes .ports) k (source-below (usable .read) (sound b (usable .links)) h)
+      (target-below (usable .read) (sound b (usable .links)) h) fs gs)
 
-passed-here : (r : Ruling) {said : Answer Bool} → said ≡ answer r false → said ≡ answered false → r ≡ passed
-unfolding answer
-passed-here passed e f = refl
-passed-here (refusal n place) e f = cc
+-- ---- the ports are marked: the first ports are written, and the links held against the marks
 
--- ---- how far the check is: the inputs are marked, or 14 was met among them; then the outputs
-
-pub record InputsMarked (b a m inputs : List ℕ) (n l p at : ℕ) (said : Answer Bool) : Type 0 where
-  pub read : ReadWell b n l p
-  pub links : rule45 b ≡ passed
-  pub room : at + (n + 1) + 2 * p ≤ length a
-  pub firsts : List ℕ
-  pub written : firsts ≡ sets a at (map (firstPort b) (upto (n + 1)))
-  pub listed : ListMarked firsts m (inputMarks n at) p inputs said
-
-pub record OutputsMarked (b a m inputs outputs : List ℕ) (n l p at : ℕ) (said : Answer Bool) : Type 0 where
-  pub before-them : List ℕ
-  pub said-before : Answer Bool
-  pub known-inputs : said-before ≡ answered false
-  pub inputs-marked : InputsMarked b a before-them inputs n l p at said-before
-  pub listed : ListMarked before-them m (outputMarks n p at) p outputs said
-
-module _ {b a m inputs : List ℕ} {n l p at : ℕ} {said : Answer Bool} (so-far : InputsMarked b a m inputs n l p at said) where
+module _ {b a : List ℕ} {at : Layout} {room : PortRoom} (usable : Usable b a at) (fits : Fits at room) where
   abbrev table : List ℕ
-  table = map (firstPort b) (upto (n + 1))
+  table = map (firstPort b) (upto (at .sizes .nodes + 1))
 
-  many : length table ≡ n + 1
-  many = length-table (firstPort b) (n + 1)
+  many : length table ≡ at .sizes .nodes + 1
+  many = length-table (firstPort b) (at .sizes .nodes + 1)
 
-  firsts-kept : Within at (n + 1 + 2 * p) a (so-far .firsts)
-  firsts-kept =
-      subst (Within at (n + 1 + 2 * p) a) (sym (so-far .written))
-      (within-sets within-none at table (omega arith) (omega (arith, many)))
+  module _ {m : List ℕ} (written : m ≡ sets a (room .firsts) table) where
+    firsts-kept : Within (room .firsts) (at .sizes .nodes + 1) a m
+    firsts-kept =
+        subst (Within (room .firsts) (at .sizes .nodes + 1) a) (sym written)
+        (within-sets within-none (room .firsts) table (omega arith) (omega (arith, many)))
 
-  first-stands : (v : ℕ) → v < n → getD m (at + v) 0 ≡ firstPort b v
-  first-stands v h =
-      so-far .listed .kept .same (at + v) (inl (omega arith))
-      ∙ ap (λ (x : List ℕ). getD x (at + v) 0) (so-far .written)
-      ∙ getD-sets-in a at table v 0 (omega (arith, many)) (omega (arith, many, so-far .room))
-      ∙ getD-table (firstPort b) (n + 1) v 0 (omega arith)
+    scratch-kept : Scratched at a m
+    scratch-kept = within-wider firsts-kept (at .scratch) (scratchSize (at .sizes)) (omega arith) (omega arith)
 
-  inputs-kept : Within at (n + 1 + 2 * p) a m
-  inputs-kept = within-both firsts-kept (within-wider (so-far .listed .kept) at (n + 1 + 2 * p) (omega arith) (omega arith))
-
-  -- refusal 14 on one list, by the number of ports that was read
-  by-ports : (ports : List ℕ) {answer-to : Answer Bool} → answer-to ≡ answer (refuse 14 (earliest (leb p) ports)) false
-      → answer-to ≡ answer (rule14 b ports) false
-  unfolding rule14
-  by-ports ports e = e ∙ ap (λ (x : ℕ). answer (refuse 14 (earliest (leb x) ports)) false) (sym (so-far .read .ports))
-
-  inputs-say : said ≡ answer (rule14 b inputs) false
-  inputs-say = by-ports inputs (so-far .listed .says)
-
-  pub unknown-input : (outputs : List ℕ) → (said ≡ answered false → ⊥) → PortsChecked b a m n p at inputs outputs said
-  unfolding portRules
-  unknown-input outputs no-answer =
-      record {
-        says = refused-here (rule14 b inputs) (rule14 b outputs ∷ []) (conflict b inputs outputs) inputs-say no-answer;
-        kept = inputs-kept;
-      }
-
-  -- the inputs are all known, so the outputs decide
-  past-inputs : (outputs : List ℕ) → said ≡ answered false → decide (portRules b inputs outputs) ≡ decide (rule14 b outputs ∷ [])
-  unfolding portRules decide
-  past-inputs outputs known = ap (λ (r : Ruling). decide (r ∷ rule14 b outputs ∷ [])) (passed-here (rule14 b inputs) inputs-say known)
-
-module _ {b a m inputs outputs : List ℕ} {n l p at : ℕ} {said : Answer Bool} (so-far : OutputsMarked b a m inputs outputs n l p at said) where
-  first : InputsMarked b a (so-far .before-them) inputs n l p at (so-far .said-before)
-  first = so-far .inputs-marked
-
-  outputs-kept : Within at (n + 1 + 2 * p) a m
-  outputs-kept =
-      within-both (inputs-kept first) (within-wider (so-far .listed .kept) at (n + 1 + 2 * p) (omega arith) (omega arith))
-
-  outputs-say : said ≡ answer (rule14 b outputs) false
-  outputs-say = by-ports first outputs (so-far .listed .says)
-
-  outputs-decide : decide (portRules b inputs outputs) ≡ decide (rule14 b outputs ∷ [])
-  outputs-decide = past-inputs first outputs (so-far .known-inputs)
-
-  pub unknown-output : (said ≡ answered false → ⊥) → PortsChecked b a m n p at inputs outputs said
-  unknown-output no-answer =
-      record {
-        says =
-            refused-here (rule14 b outputs) [] (conflict b inputs outputs) outputs-say no-answer
-            ∙ sym (ap (λ (r : Ruling). answer r (conflict b inputs outputs)) outputs-decide);
-        kept = outputs-kept;
-      }
-
-  pub laid : Laid b m n l p at
-  laid =
-      record {
-        read = first .read;
-        links = first .links;
-        firsts = λ v h. so-far .listed .kept .same (at + v) (inl (omega arith)) ∙ first-stands first v h;
-        room = omega (arith, outputs-kept .long, first .room);
-      }
-
-  module _ (known : said ≡ answered false) {after : List ℕ} {met : Bool} (passing : LinksPassed b m after n l p at met) where
-    is-input : (q : ℕ) → q < p → marked m (inputMarks n at) q ≡ member q inputs
-    is-input q h =
-        marked-outside (so-far .listed .kept) (inputMarks n at) q (inl (omega arith)) ∙ first .listed .marks-stand (so-far .known-inputs) q h
-
-    is-output : (q : ℕ) → q < p → marked m (outputMarks n p at) q ≡ member q outputs
-    is-output q h = so-far .listed .marks-stand known q h
-
-    met-is : met ≡ conflict b inputs outputs
-    met-is =
-        passing .says
-        ∙ any-same (meets b (marked m (inputMarks n at)) (marked m (outputMarks n p at))) (meets b (λ q. member q inputs) (λ q. member q outputs)) l
-        (λ k h. meets-same b (marked m (inputMarks n at)) (marked m (outputMarks n p at)) (λ q. member q inputs) (λ q. member q outputs) p k
-        (source-below (first .read) (sound b (first .links)) h) (target-below (first .read) (sound b (first .links)) h) is-input is-output)
-        ∙ ap (λ (j : ℕ). any (meets b (λ q. member q inputs) (λ q. member q outputs)) (upto j)) (sym (first .read .links))
-        ∙ sym (conflict-by-links b inputs outputs)
-
-    no-refusal : decide (portRules b inputs outputs) ≡ passed
-    unfolding decide
-    no-refusal = outputs-decide ∙ ap (λ (r : Ruling). decide (r ∷ [])) (passed-here (rule14 b outputs) outputs-say known)
-
-    pub decided : {r : Bool} → met ≡ r → PortsChecked b a after n p at inputs outputs (answered r)
-    unfolding answer
-    decided e =
+    pub laid : Laid b m at room
+    laid =
         record {
-          says = ap answered (sym e ∙ met-is) ∙ sym (ap (λ (r : Ruling). answer r (conflict b inputs outputs)) no-refusal);
-          kept = within-both outputs-kept (within-wider (passing .kept) at (n + 1 + 2 * p) (omega arith) (omega arith));
+          usable = still-usable usable scratch-kept;
+          fits = fits;
+          firsts = λ v h. ap (λ (x : List ℕ). getD x (room .firsts + v) 0) written
+              ∙ getD-sets-in a (room .firsts) table v 0 (omega (arith, many)) (omega (arith, many, usable .placed .after-scratch, usable .room))
+              ∙ getD-table (firstPort b) (at .sizes .nodes + 1) v 0 (omega arith);
         }
+
+    marks-still : (marks : ℕ) → room .inputs ≤ marks → (q : ℕ) → marked m marks q ≡ marked a marks q
+    marks-still marks behind q = marked-outside firsts-kept marks q (inr (omega arith))
+
+    module _ {o : List ℕ} {met : Bool} (passing : LinksPassed b m o at room met) where
+      pub looked : {known : PortsFound} → known ≡ Clear → {r : Bool} → met ≡ r → LinksLooked b a o at room known (answered r)
+      looked clear e =
+          record {
+            says =
+                ap answered
+                (sym e ∙ passing .says
+                ∙ links-same usable (marked m (room .inputs)) (marked m (room .outputs)) (marked a (room .inputs)) (marked a (room .outputs))
+                (λ q h. marks-still (room .inputs) (omega arith) q) (λ q h. marks-still (room .outputs) (omega arith) q))
+                ∙ sym (ap (λ (x : PortsFound). afterMarks x (any (meets b (marked a (room .inputs)) (marked a (room .outputs))) (upto (at .sizes .links)))) clear);
+            kept = within-both scratch-kept (within-wider (passing .kept) (at .scratch) (scratchSize (at .sizes)) (omega arith) (omega arith));
+          }
+
+-- ---- the answer
+
+module _ {b a m o inputs outputs : List ℕ} {at : Layout} {room : PortRoom} {known : PortsFound} {said : Answer Bool} (usable : Usable b a at)
+    (marks : ListsMarked at room a m inputs outputs (portsSaid known)) (looks : LinksLooked b m o at room known said) where
+  rules-are : decide (unknownPort (at .sizes .ports) inputs ∷ unknownPort (at .sizes .ports) outputs ∷ []) ≡ decide (portRules b inputs outputs)
+  unfolding portRules rule14
+  rules-are = ap (λ (p : ℕ). decide (unknownPort p inputs ∷ unknownPort p outputs ∷ [])) (sym (usable .read .ports))
+
+  marks-say : portsSaid known ≡ answer (decide (portRules b inputs outputs)) false
+  marks-say = marks .says ∙ ap (λ (r : Ruling). answer r false) rules-are
+
+  met-is : portsSaid known ≡ answered false
+      → any (meets b (marked m (room .inputs)) (marked m (room .outputs))) (upto (at .sizes .links)) ≡ conflict b inputs outputs
+  met-is clear =
+      links-same usable (marked m (room .inputs)) (marked m (room .outputs)) (λ q. member q inputs) (λ q. member q outputs)
+      (marks .inputs-stand clear) (marks .outputs-stand clear)
+      ∙ ap (λ (j : ℕ). any (meets b (λ q. member q inputs) (λ q. member q outputs)) (upto j)) (sym (usable .read .links))
+      ∙ sym (conflict-by-links b inputs outputs)
+
+  says-so : (r : Ruling) → portsSaid known ≡ answer r false → said ≡ answer r (conflict b inputs outputs)
+  unfolding answer
+  says-so passed clear = looks .says ∙ ap₂ afterMarks (known-clear known clear) (met-is clear)
+  says-so (refusal n place) e = looks .says ∙ known-refused known _ e
+
+  pub answers : Answered at a o said (portRules b inputs outputs) (conflict b inputs outputs)
+  answers = record { says = says-so (decide (portRules b inputs outputs)) marks-say; kept = within-both (marks .kept) (looks .kept) }

@@ -1,3 +1,4 @@
 pub mod FirstLinks
+pub mod Room
 pub mod Marks
 pub mod Said

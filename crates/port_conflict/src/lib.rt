@@ -2,23 +2,22 @@
 // finds the first links of the outputs in one pass over the links, with marks for the listed ports in place of a set.
 pub mod links;
 pub mod marks;
+pub mod room;
 
-ghost use mathlib.Core.Path.{_≡_};
-ghost use mathlib.Core.List.{map};
-ghost use Prim.Native.Nat.{_+_, _*_, _≤_};
-ghost use lib.ListN.{length};
-ghost use lib.Seq.{sets};
-ghost use Rattle.lists.specs.Lists.{upto};
-ghost use Rattle.paper.specs.Map.{firstPort};
-ghost use Rattle.paper.specs.Refusals.{passed, rule45};
+ghost use Rattle.paper.specs.Calls.{portRules};
+ghost use Rattle.paper.specs.Ports.{conflict};
 ghost use Rattle.paper.specs.Words.{wordsFrom};
-ghost use Rattle.stepmap.specs.Formed.{Numbered, ReadWell};
-ghost use Rattle.port_conflict.specs.Marks.{PortsChecked};
-ghost use Rattle.port_conflict.specs.Said.{portsSaid};
+ghost use Rattle.tables.specs.Answered.{Answered};
+ghost use Rattle.tables.specs.Usable.{Usable};
+ghost use Rattle.port_conflict.specs.Room.{Fits};
+ghost use Rattle.port_conflict.specs.Said.{LinksLooked, portsSaid};
 use links::first_links_meet;
-use marks::mark_ports;
-use marks::mark_ports_bytes;
-use stepmap::ports::first_ports;
+use marks::mark_lists;
+use marks::mark_lists_bytes;
+use neighbours::first_ports_at;
+use room::PortRoom;
+use room::lay_room;
+use tables::Layout;
 
 // What two lists of ports come to: an unknown port at an entry of its list, a conflict, or none.
 pub enum PortsFound {
@@ -27,77 +26,61 @@ pub enum PortsFound {
     Clear,
 }
 
-// Writes the first ports of the n nodes, and their number, to the section at `at`.
-fn first_ports_at(b: &[u8], n: usize, area: &mut [u16], at: usize)
-    requires { ⌜ Numbered (now b) n ⌝ }
-    requires { ⌜ at + (n + 1) ≤ length (now area) ⌝ }
-    ensures { λ _. ⌜ now (area .exit) ≡ sets (now (area .entry)) at (map (firstPort (now (b .entry))) (upto (n + 1))) ⌝ }
-{
-    let end = at + (n + 1);
-    first_ports(b, n, &mut area[at..end]);
-}
-
-// Whether a listed input is the other end of the first link of a listed output, in the n + 1 + 2 * p words at `at`. Either list may name
-// ports of either direction; an unknown input comes before an unknown output.
-pub fn check_ports(
+// What the ports come to once they are marked, however their lists came: the first unknown one, or whether the first links meet.
+fn look_at_links(
     b: &[u8],
-    n: usize,
-    l: usize,
-    p: usize,
+    at: Layout,
     area: &mut [u16],
-    at: usize,
-    inputs: &[u16],
-    outputs: &[u16],
+    room: PortRoom,
+    known: PortsFound,
 ) -> PortsFound
-    requires { ⌜ ReadWell (now b) n l p ⌝ }
-    requires { ⌜ rule45 (now b) ≡ passed ⌝ }
-    requires { ⌜ at + (n + 1) + 2 * p ≤ length (now area) ⌝ }
-    ensures { λ r. ⌜ PortsChecked (now (b .entry)) (now (area .entry)) (now (area .exit)) n p at (now (inputs .entry)) (now (outputs .entry)) (portsSaid r) ⌝ }
+    requires { ⌜ Usable (now b) (now area) at ⌝ }
+    requires { ⌜ Fits at room ⌝ }
+    ensures { λ r. ⌜ LinksLooked (now (b .entry)) (now (area .entry)) (now (area .exit)) at room known (portsSaid r) ⌝ }
 {
-    let marks = at + (n + 1);
-    first_ports_at(b, n, area, at);
-    let among_inputs = mark_ports(area, marks, p, inputs);
-    let PortsFound::Clear = among_inputs else {
-        return among_inputs;
+    let PortsFound::Clear = known else {
+        return known;
     };
-    let among_outputs = mark_ports(area, marks + p, p, outputs);
-    let PortsFound::Clear = among_outputs else {
-        return among_outputs;
-    };
-    if first_links_meet(b, n, l, p, area, at) {
+    first_ports_at(b, at.sizes.nodes, area, room.firsts);
+    if first_links_meet(b, at, area, room) {
         return PortsFound::Conflict;
     }
     PortsFound::Clear
+}
+
+// Whether a listed input is the other end of the first link of a listed output. Either list may name ports of either direction; an unknown
+// input comes before an unknown output.
+pub fn check_ports(
+    b: &[u8],
+    at: Layout,
+    area: &mut [u16],
+    inputs: &[u16],
+    outputs: &[u16],
+) -> PortsFound
+    requires { ⌜ Usable (now b) (now area) at ⌝ }
+    ensures { λ r. ⌜ Answered at (now (area .entry)) (now (area .exit)) (portsSaid r)
+        (portRules (now (b .entry)) (now (inputs .entry)) (now (outputs .entry)))
+        (conflict (now (b .entry)) (now (inputs .entry)) (now (outputs .entry))) ⌝ }
+{
+    let room = lay_room(at);
+    let known = mark_lists(at, area, room, inputs, outputs);
+    look_at_links(b, at, area, room, known)
 }
 
 // The same of lists in bytes.
 pub fn check_ports_bytes(
     b: &[u8],
-    n: usize,
-    l: usize,
-    p: usize,
+    at: Layout,
     area: &mut [u16],
-    at: usize,
     inputs: &[u8],
     outputs: &[u8],
 ) -> PortsFound
-    requires { ⌜ ReadWell (now b) n l p ⌝ }
-    requires { ⌜ rule45 (now b) ≡ passed ⌝ }
-    requires { ⌜ at + (n + 1) + 2 * p ≤ length (now area) ⌝ }
-    ensures { λ r. ⌜ PortsChecked (now (b .entry)) (now (area .entry)) (now (area .exit)) n p at (wordsFrom (now (inputs .entry))) (wordsFrom (now (outputs .entry))) (portsSaid r) ⌝ }
+    requires { ⌜ Usable (now b) (now area) at ⌝ }
+    ensures { λ r. ⌜ Answered at (now (area .entry)) (now (area .exit)) (portsSaid r)
+        (portRules (now (b .entry)) (wordsFrom (now (inputs .entry))) (wordsFrom (now (outputs .entry))))
+        (conflict (now (b .entry)) (wordsFrom (now (inputs .entry))) (wordsFrom (now (outputs .entry)))) ⌝ }
 {
-    let marks = at + (n + 1);
-    first_ports_at(b, n, area, at);
-    let among_inputs = mark_ports_bytes(area, marks, p, inputs);
-    let PortsFound::Clear = among_inputs else {
-        return among_inputs;
-    };
-    let among_outputs = mark_ports_bytes(area, marks + p, p, outputs);
-    let PortsFound::Clear = among_outputs else {
-        return among_outputs;
-    };
-    if first_links_meet(b, n, l, p, area, at) {
-        return PortsFound::Conflict;
-    }
-    PortsFound::Clear
+    let room = lay_room(at);
+    let known = mark_lists_bytes(at, area, room, inputs, outputs);
+    look_at_links(b, at, area, room, known)
 }

@@ -2,9 +2,13 @@
 ghost use Prim.Native.Nat.{_+_, _≤_};
 ghost use lib.ListN.{length};
 ghost use Rattle.paper.specs.Words.{wordsFrom};
-ghost use Rattle.port_conflict.specs.Marks.{ListMarked, PortMarked};
+ghost use Rattle.tables.specs.Placed.{scratchSize};
+ghost use Rattle.port_conflict.specs.Marks.{ListMarked, ListsMarked, PortMarked};
+ghost use Rattle.port_conflict.specs.Room.{Fits};
 ghost use Rattle.port_conflict.specs.Said.{portsSaid};
 use super::PortsFound;
+use super::room::PortRoom;
+use tables::Layout;
 use words::field::field_at;
 use words::field::wide;
 use words::section::fill;
@@ -52,4 +56,42 @@ pub fn mark_ports_bytes(area: &mut [u16], marks: usize, p: usize, ports: &[u8]) 
         i += 1;
     }
     PortsFound::Clear
+}
+
+// Marks both lists, each in its own marks; an unknown input comes before an unknown output.
+pub fn mark_lists(
+    at: Layout,
+    area: &mut [u16],
+    room: PortRoom,
+    inputs: &[u16],
+    outputs: &[u16],
+) -> PortsFound
+    requires { ⌜ Fits at room ⌝ }
+    requires { ⌜ at .scratch + scratchSize (at .sizes) ≤ length (now area) ⌝ }
+    ensures { λ r. ⌜ ListsMarked at room (now (area .entry)) (now (area .exit)) (now (inputs .entry)) (now (outputs .entry)) (portsSaid r) ⌝ }
+{
+    let among_inputs = mark_ports(area, room.inputs, at.sizes.ports, inputs);
+    let PortsFound::Clear = among_inputs else {
+        return among_inputs;
+    };
+    mark_ports(area, room.outputs, at.sizes.ports, outputs)
+}
+
+// The same of lists in bytes.
+pub fn mark_lists_bytes(
+    at: Layout,
+    area: &mut [u16],
+    room: PortRoom,
+    inputs: &[u8],
+    outputs: &[u8],
+) -> PortsFound
+    requires { ⌜ Fits at room ⌝ }
+    requires { ⌜ at .scratch + scratchSize (at .sizes) ≤ length (now area) ⌝ }
+    ensures { λ r. ⌜ ListsMarked at room (now (area .entry)) (now (area .exit)) (wordsFrom (now (inputs .entry))) (wordsFrom (now (outputs .entry))) (portsSaid r) ⌝ }
+{
+    let among_inputs = mark_ports_bytes(area, room.inputs, at.sizes.ports, inputs);
+    let PortsFound::Clear = among_inputs else {
+        return among_inputs;
+    };
+    mark_ports_bytes(area, room.outputs, at.sizes.ports, outputs)
 }

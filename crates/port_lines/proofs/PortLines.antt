@@ -8,16 +8,19 @@ use mathlib.Core.List.{List}
 use lib.ListN.{length, getD}
 use borrow.Author.Tests.{leb-false}
 use Rattle.paper.specs.Map.{P, input, output, portNode, isOutput, portLinks}
-use Rattle.paper.specs.Area.{Section, W}
+use Rattle.paper.specs.Area.{Section}
 use Rattle.paper.specs.Ports.{earlierPorts, firstLine, lineCountAt, viewStart}
-use Rattle.paper.proofs.Area.{W-sum}
 use Rattle.order_theory.proofs.Refusals.{sound}
 use Rattle.accepted_theory.proofs.Ports.{lines-within}
 use Rattle.stepmap.specs.Formed.{portOf}
+use Rattle.stepmap.specs.declared.read.Sizes.{Sizes}
 use Rattle.stepmap.proofs.Known.{has-port}
 use Rattle.stepmap.proofs.PortNumbers.{Owner, holder, first-port-next}
-use Rattle.tables.specs.UsableBy.{Usable, nodeStartsAt, linesAt as nodeLinesAt}
-use Rattle.tables.proofs.WordsBy.{section-at, word-at, count-few, lines-end, lines-long}
+use Rattle.tables.specs.declared.Layout.{Layout}
+use Rattle.tables.specs.Placed.{entriesSize}
+use Rattle.tables.specs.Usable.{Usable}
+use Rattle.tables.proofs.Usable.{roomy}
+use Rattle.tables.proofs.Words.{section-at, word-at, count-few, lines-end, lines-long}
 use Rattle.port_lines.specs.Ends.{KnownPort, linksAmong}
 use Rattle.port_lines.proofs.Among.{portsOf, linksFrom, row-among}
 
@@ -35,10 +38,10 @@ sibling b port o = portOf b (isOutput b port) (portNode b port) o
 abbrev siblings : List ℕ → ℕ → ℕ
 siblings b port = portsOf b (isOutput b port) (portNode b port)
 
-node-holds : {b : List ℕ} {n l p port : ℕ} → KnownPort b n l p port → Owner b n port (portNode b port)
-node-holds {b} {n} {port = port} given = holder b n port (portNode b port) (has-port (given .read) (given .known)) refl
+node-holds : {b : List ℕ} {sizes : Sizes} {port : ℕ} → KnownPort b sizes port → Owner b (sizes .nodes) port (portNode b port)
+node-holds {b} {sizes} {port} given = holder b (sizes .nodes) port (portNode b port) (has-port (given .read) (given .known)) refl
 
-module _ {b : List ℕ} {n l p port : ℕ} (given : KnownPort b n l p port) (o : ℕ) (offset : port ≡ sibling b port o) where
+module _ {b : List ℕ} {sizes : Sizes} {port : ℕ} (given : KnownPort b sizes port) (o : ℕ) (offset : port ≡ sibling b port o) where
   -- an offset is below the number of its node's ports of its direction
   offset-known : o < siblings b port
   unfolding isOutput input output
@@ -84,20 +87,20 @@ module _ {b : List ℕ} {n l p port : ℕ} (given : KnownPort b n l p port) (o :
 
 -- ---- the lines at a port, which are a part of the area
 
-module _ {b a : List ℕ} {n l p port : ℕ} (usable : Usable b a n l p) (h : port < p) where
-  known-port : KnownPort b n l p port
+module _ {b a : List ℕ} {at : Layout} {port : ℕ} (usable : Usable b a at) (h : port < at .sizes .ports) where
+  pub known-port : KnownPort b (at .sizes) port
   known-port = record { read = usable .read; links = usable .links; known = h }
 
-  pub node-known : {v : ℕ} → v ≡ portNode b port → v < n
+  pub node-known : {v : ℕ} → v ≡ portNode b port → v < at .sizes .nodes
   node-known e = omega (arith, node-holds known-port .known)
 
   -- they are within the words in use of the section
-  pub view-few : viewStart b a port + lineCountAt b port ≤ nodeLinesAt n + (2 * l + n)
+  pub view-few : viewStart b a port + lineCountAt b port ≤ at .lines + entriesSize (at .sizes)
   unfolding viewStart
   view-few =
       omega (
         arith,
-        lines-within (usable .tables) (sound b (usable .links)) room known,
+        lines-within (usable .tables) (sound b (usable .links)) (roomy usable) known,
         section-at usable Section.linesOfNodes,
         word-at usable Section.nodeStarts (portNode b port),
         lines-long usable (portNode b port) (node-known refl),
@@ -105,27 +108,24 @@ module _ {b a : List ℕ} {n l p port : ℕ} (usable : Usable b a n l p) (h : po
         count-few usable,
       )
     where
-      room : W b ≤ length a
-      room = omega (arith, W-sum b, usable .read .nodes, usable .read .links, usable .read .ports, usable .room)
-
       known : port < P b
       known = omega (arith, usable .read .ports)
 
   pub view-inside : viewStart b a port + lineCountAt b port ≤ length a
-  view-inside = omega (arith, view-few, usable .room)
+  view-inside = omega (arith, view-few, usable .placed, usable .room)
 
   -- .. and start behind the lines of earlier ports, in the node's list
-  module _ {v w f : ℕ} (node : v ≡ portNode b port) (word : w ≡ getD a (nodeStartsAt n + v) 0) (first : f ≡ firstLine b port) where
-    pub start-so : nodeLinesAt n + w + f ≡ viewStart b a port
+  module _ {v w f : ℕ} (node : v ≡ portNode b port) (word : w ≡ getD a (at .begins + v) 0) (first : f ≡ firstLine b port) where
+    pub start-so : at .lines + w + f ≡ viewStart b a port
     unfolding viewStart
     start-so =
         omega (
           arith,
           section-at usable Section.linesOfNodes,
           word-at usable Section.nodeStarts (portNode b port),
-          word ∙ ap (λ (u : ℕ). getD a (nodeStartsAt n + u) 0) node,
+          word ∙ ap (λ (u : ℕ). getD a (at .begins + u) 0) node,
           first,
         )
 
-    pub start-few : nodeLinesAt n + w + f ≤ nodeLinesAt n + (2 * l + n)
-    start-few = omega (arith, start-so, view-few)
+    pub start-inside : at .lines + w + f ≤ length a
+    start-inside = omega (arith, start-so, view-inside)

@@ -9,12 +9,13 @@ use Rattle.lists.specs.Lists.{upto, count}
 use Rattle.paper.specs.Map.{L, linkFrom, linkOut, linkTo, linkIn}
 use Rattle.paper.specs.Refusals.{passed, rule45}
 use Rattle.stepmap.specs.Formed.{ReadWell}
+use Rattle.stepmap.specs.declared.read.Sizes.{Sizes}
 
 -- a port of a map that passes 1, 2, 4 and 5
-pub record KnownPort (b : List ℕ) (n l p port : ℕ) : Type 0 where
-  pub read : ReadWell b n l p
+pub record KnownPort (b : List ℕ) (sizes : Sizes) (port : ℕ) : Type 0 where
+  pub read : ReadWell b (sizes .nodes) (sizes .links) (sizes .ports)
   pub links : rule45 b ≡ passed
-  pub known : port < p
+  pub known : port < sizes .ports
 
 -- the node at which a link leaves, or at which it arrives
 abbrev pub endNode : List ℕ → Bool → ℕ → ℕ

@@ -7,7 +7,7 @@ ghost use Rattle.paper.specs.Map.{P};
 ghost use lib.Seq.{slice};
 ghost use Rattle.paper.specs.Ports.{firstLine, lineCountAt, viewStart};
 ghost use Rattle.stepmap.specs.Formed.{HasLink, ReadWell};
-ghost use Rattle.tables.specs.UsableBy.{Usable};
+ghost use Rattle.tables.specs.Usable.{Usable};
 ghost use Rattle.port_lines.specs.Ends.{KnownPort, endNode, endOffset, isAmong, linksAmong};
 ghost use Rattle.port_lines.specs.Place.{StartsAt};
 use stepmap::access::link_from;
@@ -17,6 +17,8 @@ use stepmap::access::link_to;
 use stepmap::ports::is_output;
 use stepmap::ports::port_node;
 use stepmap::ports::port_offset;
+use stepmap::read::Sizes;
+use tables::Layout;
 use words::section::word_at;
 
 // The node of link k at its output or at its input.
@@ -74,54 +76,47 @@ fn links_among(b: &[u8], n: usize, l: usize, out: bool, v: usize, low: usize, hi
 }
 
 // The place in its node's list of a port's first line: one line is skipped for each link on earlier ports of the same direction.
-pub fn first_line(b: &[u8], n: usize, l: usize, p: usize, port: usize) -> usize
-    requires { ⌜ KnownPort (now b) n l p port ⌝ }
+pub fn first_line(b: &[u8], sizes: Sizes, port: usize) -> usize
+    requires { ⌜ KnownPort (now b) sizes port ⌝ }
     ensures { λ r. ⌜ r ≡ firstLine (now (b .entry)) port ⌝ }
 {
-    let out = is_output(b, n, port);
-    let v = port_node(b, n, port);
-    let offset = port_offset(b, n, port);
-    links_among(b, n, l, out, v, 0, offset)
+    let out = is_output(b, sizes.nodes, port);
+    let v = port_node(b, sizes.nodes, port);
+    let offset = port_offset(b, sizes.nodes, port);
+    links_among(b, sizes.nodes, sizes.links, out, v, 0, offset)
 }
 
 // How many lines a port has: one for each of its links.
-pub fn line_count(b: &[u8], n: usize, l: usize, p: usize, port: usize) -> usize
-    requires { ⌜ KnownPort (now b) n l p port ⌝ }
+pub fn line_count(b: &[u8], sizes: Sizes, port: usize) -> usize
+    requires { ⌜ KnownPort (now b) sizes port ⌝ }
     ensures { λ r. ⌜ r ≡ lineCountAt (now (b .entry)) port ⌝ }
 {
-    let out = is_output(b, n, port);
-    let v = port_node(b, n, port);
-    let offset = port_offset(b, n, port);
-    links_among(b, n, l, out, v, offset, offset + 1)
+    let out = is_output(b, sizes.nodes, port);
+    let v = port_node(b, sizes.nodes, port);
+    let offset = port_offset(b, sizes.nodes, port);
+    links_among(b, sizes.nodes, sizes.links, out, v, offset, offset + 1)
 }
 
 // The word of the area that a port's lines start at: in its node's list, behind the lines of its earlier ports.
-pub fn view_start(b: &[u8], n: usize, l: usize, p: usize, area: &[u16], port: usize) -> usize
-    requires { ⌜ Usable (now b) (now area) n l p ⌝ }
-    requires { ⌜ port < p ⌝ }
+pub fn view_start(b: &[u8], at: Layout, area: &[u16], port: usize) -> usize
+    requires { ⌜ Usable (now b) (now area) at ⌝ }
+    requires { ⌜ port < at .sizes .ports ⌝ }
     ensures { λ r. ⌜ r ≡ viewStart (now (b .entry)) (now (area .entry)) port ⌝ }
 {
-    let v = port_node(b, n, port);
-    let first = first_line(b, n, l, p, port);
-    2 + 3 * n + word_at(area, 1 + 2 * n, v) + first
+    let v = port_node(b, at.sizes.nodes, port);
+    let first = first_line(b, at.sizes, port);
+    at.lines + word_at(area, at.begins, v) + first
 }
 
 // The lines at a port, as a part of the area (the Rust's `lines_at_port`): its words, and the place in the area that it starts at.
-pub fn lines_at_port<'a>(
-    b: &[u8],
-    n: usize,
-    l: usize,
-    p: usize,
-    area: &'a [u16],
-    port: usize,
-) -> &'a [u16]
-    requires { ⌜ Usable (now b) (now area) n l p ⌝ }
-    requires { ⌜ port < p ⌝ }
+pub fn lines_at_port<'a>(b: &[u8], at: Layout, area: &'a [u16], port: usize) -> &'a [u16]
+    requires { ⌜ Usable (now b) (now area) at ⌝ }
+    requires { ⌜ port < at .sizes .ports ⌝ }
     ensures { λ r. ⌜ now r ≡ slice (viewStart (now (b .entry)) (now (area .entry)) port)
         (viewStart (now (b .entry)) (now (area .entry)) port + lineCountAt (now (b .entry)) port) (now (area .entry)) ⌝ }
     ensures { λ r. ⌜ StartsAt r (area .entry) (viewStart (now (b .entry)) (now (area .entry)) port) ⌝ }
 {
-    let from = view_start(b, n, l, p, area, port);
-    let count = line_count(b, n, l, p, port);
+    let from = view_start(b, at, area, port);
+    let count = line_count(b, at.sizes, port);
     &area[from..from + count]
 }

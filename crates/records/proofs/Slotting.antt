@@ -20,12 +20,14 @@ use Rattle.accepted_theory.specs.SameTables.{SameTables}
 use Rattle.accepted_theory.proofs.Records.{badRecord-same}
 use Rattle.accepted_theory.proofs.Refusals.{not-passed}
 use Rattle.refusals.specs.declared.Refusal.the-variants.{BadRecord}
-use Rattle.tables.specs.UsableBy.{Usable, Scratched}
+use Rattle.tables.specs.declared.Layout.{Layout}
+use Rattle.tables.specs.Usable.{Usable, Scratched}
 use Rattle.tables.specs.Recorded.{Unmarked, Marked, Slotted}
 use Rattle.tables.proofs.Within.{within-none, within-both, within-set, within-sets}
-use Rattle.tables.proofs.WordsBy.{count-few}
-use Rattle.tables.proofs.UsableBy.{tables-still, still-usable}
-use Rattle.records.specs.Slots.{slotsAt, marksAt}
+use Rattle.tables.proofs.Words.{count-few}
+use Rattle.tables.proofs.Usable.{tables-still, still-usable}
+use Rattle.records.specs.Slots.{SlotsFit}
+use Rattle.records.specs.declared.layout.LineSlots.{LineSlots}
 use Rattle.records.specs.Tested.{Passed, RecordTested, AllTested}
 use Rattle.records.specs.declared.Checked.the-variants.{Good, Refused}
 use Rattle.records.proofs.Reasons.{used, unused, is-good, few-records}
@@ -33,28 +35,28 @@ use Rattle.records.proofs.Refusing.{first-bad, none-bad}
 
 -- ---- one record
 
-module _ {b a : List ℕ} {n l p : ℕ} (usable : Usable b a n l p) {words : List ℕ} {i : ℕ} (before : Passed b a n l words i) where
-  module _ {x mark : ℕ} (known : x < K b a) (is : mark ≡ getD a (marksAt n l + x) 0) where
+module _ {b a : List ℕ} {at : Layout} {slots : LineSlots} (usable : Usable b a at) {words : List ℕ} {i : ℕ} (before : Passed b a slots words i) where
+  module _ {x mark : ℕ} (known : x < K b a) (is : mark ≡ getD a (slots .marks + x) 0) where
     pub mark-set : (mark ≡ 0 → ⊥) → usedBefore words i x ≡ true
     mark-set ne = go (before .slotted .each x known)
       where
-        go : Unmarked a words i (marksAt n l) x ⊎ Marked a words i (slotsAt n l) (marksAt n l) x → usedBefore words i x ≡ true
+        go : Unmarked a words i (slots .marks) x ⊎ Marked a words i (slots .numbers) (slots .marks) x → usedBefore words i x ≡ true
         go (inl free) = absurd (ne (is ∙ free .mark))
-        go (inr has) = used words i x (getD a (slotsAt n l + x) 0) (has .known) (has .line)
+        go (inr has) = used words i x (getD a (slots .numbers + x) 0) (has .known) (has .line)
 
     pub mark-clear : mark ≡ 0 → usedBefore words i x ≡ false
     mark-clear e = go (before .slotted .each x known)
       where
-        go : Unmarked a words i (marksAt n l) x ⊎ Marked a words i (slotsAt n l) (marksAt n l) x → usedBefore words i x ≡ false
+        go : Unmarked a words i (slots .marks) x ⊎ Marked a words i (slots .numbers) (slots .marks) x → usedBefore words i x ≡ false
         go (inl free) = unused words i x (free .none)
         go (inr has) = absurd (omega (arith, has .mark))
 
   -- at most a record for each line
-  pub few-passed : i ≤ l + n
+  pub few-passed : i ≤ at .sizes .links + at .sizes .nodes
   few-passed = omega (arith, few-records b a words (before .good), count-few usable)
 
   module _ {r : Bool} (said : r ≡ badRecord b a words i) where
-    pub bad-left : r ≡ true → RecordTested b a n l p words i false a
+    pub bad-left : r ≡ true → RecordTested b a at slots words i false a
     bad-left e =
         record { said = sym (ap not (sym said ∙ e)); slotted = λ f. absurd (let z : _≡_ {A = ℕ} 0 1 = cc in omega arith); kept = within-none }
 
@@ -63,36 +65,36 @@ module _ {b a : List ℕ} {n l p : ℕ} (usable : Usable b a n l p) {words : Lis
       unfolding recordAt
       good-line = omega (arith, is-good b a words i (sym said ∙ e) .known)
 
-      marks-slotted : Slotted (set (set a (slotsAt n l + x) i) (marksAt n l + x) 1) words (i + 1) (slotsAt n l) (marksAt n l) (K b a)
+      marks-slotted : SlotsFit at slots → Slotted (set (set a (slots .numbers + x) i) (slots .marks + x) 1) words (i + 1) (slots .numbers) (slots .marks) (K b a)
       unfolding recordAt
-      marks-slotted = record { each = λ y h. go y h (ℕ-discrete y x) (before .slotted .each y h) }
+      marks-slotted fit = record { each = λ y h. go y h (ℕ-discrete y x) (before .slotted .each y h) }
         where
           m : List ℕ
-          m = set (set a (slotsAt n l + x) i) (marksAt n l + x) 1
+          m = set (set a (slots .numbers + x) i) (slots .marks + x) 1
 
-          marks-fit : marksAt n l + x < length a
-          marks-fit = omega (arith, good-line, count-few usable, usable .room)
+          marks-fit : slots .marks + x < length a
+          marks-fit = omega (arith, fit, good-line, count-few usable, usable .placed .after-scratch, usable .room)
 
-          own-mark : getD m (marksAt n l + x) 0 ≡ 1
+          own-mark : getD m (slots .marks + x) 0 ≡ 1
           own-mark =
-              getD-set-same (set a (slotsAt n l + x) i) (marksAt n l + x) 1 0 (omega (arith, marks-fit, length-set a (slotsAt n l + x) i))
+              getD-set-same (set a (slots .numbers + x) i) (slots .marks + x) 1 0 (omega (arith, marks-fit, length-set a (slots .numbers + x) i))
 
-          own-slot : getD m (slotsAt n l + x) 0 ≡ i
+          own-slot : getD m (slots .numbers + x) 0 ≡ i
           own-slot =
-              getD-set-other (set a (slotsAt n l + x) i) (marksAt n l + x) (slotsAt n l + x) 1 0 (λ o. omega (arith, good-line, count-few usable))
-              ∙ getD-set-same a (slotsAt n l + x) i 0 (omega (arith, marks-fit))
+              getD-set-other (set a (slots .numbers + x) i) (slots .marks + x) (slots .numbers + x) 1 0 (λ o. omega (arith, fit, good-line, count-few usable))
+              ∙ getD-set-same a (slots .numbers + x) i 0 (omega (arith, fit, marks-fit))
 
-          other-mark : (y : ℕ) → (y ≡ x → ⊥) → getD m (marksAt n l + y) 0 ≡ getD a (marksAt n l + y) 0
+          other-mark : (y : ℕ) → (y ≡ x → ⊥) → getD m (slots .marks + y) 0 ≡ getD a (slots .marks + y) 0
           other-mark y ne =
-              getD-set-other (set a (slotsAt n l + x) i) (marksAt n l + x) (marksAt n l + y) 1 0 (λ o. ne (omega arith))
-              ∙ getD-set-other a (slotsAt n l + x) (marksAt n l + y) i 0 (λ o. omega (arith, good-line, count-few usable))
+              getD-set-other (set a (slots .numbers + x) i) (slots .marks + x) (slots .marks + y) 1 0 (λ o. ne (omega arith))
+              ∙ getD-set-other a (slots .numbers + x) (slots .marks + y) i 0 (λ o. omega (arith, fit, good-line, count-few usable))
 
-          other-slot : (y : ℕ) → y < K b a → (y ≡ x → ⊥) → getD m (slotsAt n l + y) 0 ≡ getD a (slotsAt n l + y) 0
+          other-slot : (y : ℕ) → y < K b a → (y ≡ x → ⊥) → getD m (slots .numbers + y) 0 ≡ getD a (slots .numbers + y) 0
           other-slot y h ne =
-              getD-set-other (set a (slotsAt n l + x) i) (marksAt n l + x) (slotsAt n l + y) 1 0 (λ o. omega (arith, h, count-few usable))
-              ∙ getD-set-other a (slotsAt n l + x) (slotsAt n l + y) i 0 (λ o. ne (omega arith))
+              getD-set-other (set a (slots .numbers + x) i) (slots .marks + x) (slots .numbers + y) 1 0 (λ o. omega (arith, fit, h, count-few usable))
+              ∙ getD-set-other a (slots .numbers + x) (slots .numbers + y) i 0 (λ o. ne (omega arith))
 
-          own : Marked m words (i + 1) (slotsAt n l) (marksAt n l) x
+          own : Marked m words (i + 1) (slots .numbers) (slots .marks) x
           own =
               record {
                 mark = own-mark;
@@ -100,9 +102,9 @@ module _ {b a : List ℕ} {n l p : ℕ} (usable : Usable b a n l p) {words : Lis
                 line = ap (λ (j : ℕ). getD words (3 * j) 0) own-slot ∙ sym line;
               }
 
-          go : (y : ℕ) → y < K b a → Dec (y ≡ x) → Unmarked a words i (marksAt n l) y ⊎ Marked a words i (slotsAt n l) (marksAt n l) y
-              → Unmarked m words (i + 1) (marksAt n l) y ⊎ Marked m words (i + 1) (slotsAt n l) (marksAt n l) y
-          go y h (yes o) told = inr (subst (Marked m words (i + 1) (slotsAt n l) (marksAt n l)) (sym o) own)
+          go : (y : ℕ) → y < K b a → Dec (y ≡ x) → Unmarked a words i (slots .marks) y ⊎ Marked a words i (slots .numbers) (slots .marks) y
+              → Unmarked m words (i + 1) (slots .marks) y ⊎ Marked m words (i + 1) (slots .numbers) (slots .marks) y
+          go y h (yes o) told = inr (subst (Marked m words (i + 1) (slots .numbers) (slots .marks)) (sym o) own)
           go y h (no ne) (inl free) =
               inl (
               record {
@@ -119,49 +121,49 @@ module _ {b a : List ℕ} {n l p : ℕ} (usable : Usable b a n l p) {words : Lis
               }
               )
 
-      pub good-left : RecordTested b a n l p words i true (set (set a (slotsAt n l + x) i) (marksAt n l + x) 1)
-      good-left =
+      pub good-left : SlotsFit at slots → RecordTested b a at slots words i true (set (set a (slots .numbers + x) i) (slots .marks + x) 1)
+      good-left fit =
           record {
             said = sym (ap not (sym said ∙ e));
-            slotted = λ f. marks-slotted;
+            slotted = λ f. marks-slotted fit;
             kept =
-                within-set (within-set within-none (slotsAt n l + x) i (omega arith) (omega (arith, good-line, count-few usable))) (marksAt n l + x) 1
-                (omega arith)
-                (omega (arith, good-line, count-few usable));
+                within-set (within-set within-none (slots .numbers + x) i (omega (arith, fit)) (omega (arith, fit, good-line, count-few usable))) (slots .marks + x) 1
+                (omega (arith, fit))
+                (omega (arith, fit, good-line, count-few usable));
           }
 
 -- ---- one record after the other
 
-module _ {b a : List ℕ} {n l p : ℕ} (usable : Usable b a n l p) where
+module _ {b a : List ℕ} {at : Layout} {slots : LineSlots} (usable : Usable b a at) where
   -- no line is marked
-  module _ {m : List ℕ} (filled : m ≡ sets a (marksAt n l) (replicate (n + l) 0)) where
-    pub cleared-kept : Scratched n l p a m
+  module _ (fit : SlotsFit at slots) {m : List ℕ} (filled : m ≡ sets a (slots .marks) (replicate (at .sizes .nodes + at .sizes .links) 0)) where
+    pub cleared-kept : Scratched at a m
     cleared-kept =
-        subst (Scratched n l p a) (sym filled)
-        (within-sets within-none (marksAt n l) (replicate (n + l) 0) (omega arith) (omega (arith, length-replicate {A = ℕ} (n + l) 0)))
+        subst (Scratched at a) (sym filled)
+        (within-sets within-none (slots .marks) (replicate (at .sizes .nodes + at .sizes .links) 0) (omega (arith, fit)) (omega (arith, fit, length-replicate {A = ℕ} (at .sizes .nodes + at .sizes .links) 0)))
 
-    pub none-passed : (words : List ℕ) → Passed b m n l words 0
+    pub none-passed : (words : List ℕ) → Passed b m slots words 0
     none-passed words =
         record {
           good = λ j h. absurd (omega arith);
           slotted = record { each = λ x h. inl (record { mark = clear x h; none = λ j o. absurd (omega arith) }) };
         }
       where
-        clear : (x : ℕ) → x < K b m → getD m (marksAt n l + x) 0 ≡ 0
+        clear : (x : ℕ) → x < K b m → getD m (slots .marks + x) 0 ≡ 0
         clear x h =
-            ap (λ (ws : List ℕ). getD ws (marksAt n l + x) 0) filled
-            ∙ getD-sets-in a (marksAt n l) (replicate (n + l) 0) x 0
-            (omega (arith, length-replicate {A = ℕ} (n + l) 0, count-few (still-usable usable cleared-kept)))
-            (omega (arith, length-replicate {A = ℕ} (n + l) 0, usable .room))
-            ∙ getD-zeros (n + l) x
+            ap (λ (ws : List ℕ). getD ws (slots .marks + x) 0) filled
+            ∙ getD-sets-in a (slots .marks) (replicate (at .sizes .nodes + at .sizes .links) 0) x 0
+            (omega (arith, length-replicate {A = ℕ} (at .sizes .nodes + at .sizes .links) 0, count-few (still-usable usable cleared-kept)))
+            (omega (arith, fit, length-replicate {A = ℕ} (at .sizes .nodes + at .sizes .links) 0, usable .placed .after-scratch, usable .room))
+            ∙ getD-zeros (at .sizes .nodes + at .sizes .links) x
 
   -- a good record more
-  pub passed-next : {words m : List ℕ} {i : ℕ} {r : Bool} → Passed b a n l words i → RecordTested b a n l p words i r m → not r ≡ false → Passed b m n l words (i + 1)
+  pub passed-next : {words m : List ℕ} {i : ℕ} {r : Bool} → Passed b a slots words i → RecordTested b a at slots words i r m → not r ≡ false → Passed b m slots words (i + 1)
   passed-next {words} {m} {i} {r} before tested e =
       record {
         good = below-more _ i (λ j h. sym (badRecord-same t words j) ∙ before .good j h)
             (sym (badRecord-same t words i) ∙ not-true (badRecord b a words i) (sym (tested .said) ∙ not-false r e));
-        slotted = subst (Slotted m words (i + 1) (slotsAt n l) (marksAt n l)) (t .count) (tested .slotted (not-false r e));
+        slotted = subst (Slotted m words (i + 1) (slots .numbers) (slots .marks)) (t .count) (tested .slotted (not-false r e));
       }
     where
       t : SameTables b a m
@@ -169,11 +171,11 @@ module _ {b a : List ℕ} {n l p : ℕ} (usable : Usable b a n l p) where
 
   -- ---- what is left of the area a from which they started
 
-  module _ {c : List ℕ} (kept : Scratched n l p a c) {words : List ℕ} {i : ℕ} (before : Passed b c n l words i) where
+  module _ {c : List ℕ} (kept : Scratched at a c) {words : List ℕ} {i : ℕ} (before : Passed b c slots words i) where
     fine : (j : ℕ) → j < i → badRecord b a words j ≡ false
     fine j h = badRecord-same (tables-still usable kept) words j ∙ before .good j h
 
-    pub bad-found : {count : ℕ} → i < count → {r : Bool} {m : List ℕ} → RecordTested b c n l p words i r m → not r ≡ true → AllTested b a n l p words count (Refused (BadRecord i)) m
+    pub bad-found : {count : ℕ} → i < count → {r : Bool} {m : List ℕ} → RecordTested b c at slots words i r m → not r ≡ true → AllTested b a at slots words count (Refused (BadRecord i)) m
     bad-found {count} h {r} tested e =
         record {
           said = first-bad 12 (badRecord b a words) count fine h refl
@@ -182,10 +184,10 @@ module _ {b a : List ℕ} {n l p : ℕ} (usable : Usable b a n l p) where
           kept = within-both kept (tested .kept);
         }
 
-    pub all-good : {count : ℕ} → i ≤ count → count ≤ i → AllTested b a n l p words count Good c
+    pub all-good : {count : ℕ} → i ≤ count → count ≤ i → AllTested b a at slots words count Good c
     all-good {count} low high =
         record {
           said = none-bad 12 (badRecord b a words) count fine high;
-          good = λ f. let all : i ≡ count = omega arith in subst (Passed b c n l words) all before;
+          good = λ f. let all : i ≡ count = omega arith in subst (Passed b c slots words) all before;
           kept = kept;
         }

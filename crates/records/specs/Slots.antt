@@ -1,6 +1,6 @@
 -- A line's record as its mark and its slot in the scratch tell it, and a node's lines as they stand in the area.
 -- Rests on tables' Usable and paper's Records.
-use Prim.Native.Nat.{ℕ, _+_, _*_, _<_}
+use Prim.Native.Nat.{ℕ, _+_, _*_, _≤_, _<_}
 use mathlib.Core.Path.{_≡_}
 use mathlib.Core.Logic.{_⊎_}
 use mathlib.Core.Bool.{Bool, not, _&&_}
@@ -10,49 +10,52 @@ use lib.Dec.{eqb}
 use Rattle.lists.specs.Lists.{any}
 use Rattle.paper.specs.Intervals.{within}
 use Rattle.paper.specs.Records.{recordAt}
-use Rattle.tables.specs.UsableBy.{Spanned, positionsAt, nodeStartsAt, linesAt, scratchAt, entriesOf}
+use Rattle.tables.specs.declared.Layout.{Layout}
+use Rattle.tables.specs.Placed.{scratchSize}
+use Rattle.tables.specs.Usable.{Spanned, entriesOf}
+use Rattle.records.specs.declared.layout.LineSlots.{LineSlots}
 
--- a slot for each line, then a mark for each line
-abbrev pub slotsAt : ℕ → ℕ → ℕ
-slotsAt n l = scratchAt n l
-
-abbrev pub marksAt : ℕ → ℕ → ℕ
-marksAt n l = scratchAt n l + (n + l)
+-- a number for each line that an area may have, then a mark for each, and all of them in the scratch
+pub record SlotsFit (at : Layout) (slots : LineSlots) : Type 0 where
+  pub before-numbers : at .scratch ≤ slots .numbers
+  pub after-numbers : slots .numbers + (at .sizes .nodes + at .sizes .links) ≤ slots .marks
+  pub after-marks : slots .marks + (at .sizes .nodes + at .sizes .links) ≤ at .scratch + scratchSize (at .sizes)
 
 -- ---- one line
 
 -- line x has a mark, and the position lies within the record that its slot tells
-unfoldable pub insideSlot : List ℕ → List ℕ → ℕ → ℕ → ℕ → ℕ → Bool
-insideSlot a words n l q x = not (eqb (getD a (marksAt n l + x) 0) 0) && within (recordAt words (getD a (slotsAt n l + x) 0)) q
+unfoldable pub insideSlot : List ℕ → List ℕ → LineSlots → ℕ → ℕ → Bool
+insideSlot a words slots q x = not (eqb (getD a (slots .marks + x) 0) 0) && within (recordAt words (getD a (slots .numbers + x) 0)) q
 
--- line x has a mark in the area, and if it is set, a whole record at its slot
-pub record SlotAt (a words : List ℕ) (n l x : ℕ) : Type 0 where
-  pub room : marksAt n l + x < length a
-  pub whole : (getD a (marksAt n l + x) 0 ≡ 0) ⊎ (3 * getD a (slotsAt n l + x) 0 + 2 < length words)
+-- line x has a slot and a mark in the area, and if the mark is set, a whole record at its slot
+pub record SlotAt (a words : List ℕ) (slots : LineSlots) (x : ℕ) : Type 0 where
+  pub number-inside : slots .numbers + x < length a
+  pub mark-inside : slots .marks + x < length a
+  pub whole : (getD a (slots .marks + x) 0 ≡ 0) ⊎ (3 * getD a (slots .numbers + x) 0 + 2 < length words)
 
 -- ---- the lines of a node
 
-pub record SlotsAt (a words : List ℕ) (n l : ℕ) (lines : List ℕ) : Type 0 where
-  pub each : (i : ℕ) → i < length lines → SlotAt a words n l (getD lines i 0)
+pub record SlotsAt (a words : List ℕ) (slots : LineSlots) (lines : List ℕ) : Type 0 where
+  pub each : (i : ℕ) → i < length lines → SlotAt a words slots (getD lines i 0)
 
-abbrev pub linesHere : List ℕ → ℕ → ℕ → List ℕ
-linesHere a n v = entriesOf a (nodeStartsAt n) (linesAt n) v
+abbrev pub linesHere : List ℕ → Layout → ℕ → List ℕ
+linesHere a at v = entriesOf a (at .begins) (at .lines) v
 
-abbrev pub positionHere : List ℕ → ℕ → ℕ → ℕ
-positionHere a n v = getD a (positionsAt n + v) 0
+abbrev pub positionHere : List ℕ → Layout → ℕ → ℕ
+positionHere a at v = getD a (at .positions + v) 0
 
-pub record NodeAt (a words : List ℕ) (n l v : ℕ) : Type 0 where
-  pub span : Spanned a (nodeStartsAt n) (linesAt n) v
-  pub room : positionsAt n + v < length a
-  pub slots : SlotsAt a words n l (linesHere a n v)
+pub record NodeAt (a words : List ℕ) (at : Layout) (slots : LineSlots) (v : ℕ) : Type 0 where
+  pub span : Spanned a (at .begins) (at .lines) v
+  pub room : at .positions + v < length a
+  pub slotted : SlotsAt a words slots (linesHere a at v)
 
 -- node v is inside on one of its lines
-unfoldable pub insideHere : List ℕ → List ℕ → ℕ → ℕ → ℕ → Bool
-insideHere a words n l v = any (insideSlot a words n l (positionHere a n v)) (linesHere a n v)
+unfoldable pub insideHere : List ℕ → List ℕ → Layout → LineSlots → ℕ → Bool
+insideHere a words at slots v = any (insideSlot a words slots (positionHere a at v)) (linesHere a at v)
 
 -- .. and outside on one
-unfoldable pub outsideHere : List ℕ → List ℕ → ℕ → ℕ → ℕ → Bool
-outsideHere a words n l v = any (λ x. not (insideSlot a words n l (positionHere a n v) x)) (linesHere a n v)
+unfoldable pub outsideHere : List ℕ → List ℕ → Layout → LineSlots → ℕ → Bool
+outsideHere a words at slots v = any (λ x. not (insideSlot a words slots (positionHere a at v) x)) (linesHere a at v)
 
-unfoldable pub straddlesHere : List ℕ → List ℕ → ℕ → ℕ → ℕ → Bool
-straddlesHere a words n l v = insideHere a words n l v && outsideHere a words n l v
+unfoldable pub straddlesHere : List ℕ → List ℕ → Layout → LineSlots → ℕ → Bool
+straddlesHere a words at slots v = insideHere a words at slots v && outsideHere a words at slots v

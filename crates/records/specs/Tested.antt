@@ -9,9 +9,10 @@ use Rattle.paper.specs.Area.{K}
 use Rattle.paper.specs.Records.{recordsIn}
 use Rattle.paper.specs.Refusals.{Ruling, passed, refuse, badRecord, rule12, rule13, decide}
 use Rattle.refusals.specs.Said.{ruled}
-use Rattle.tables.specs.UsableBy.{Scratched}
+use Rattle.tables.specs.declared.Layout.{Layout}
+use Rattle.tables.specs.Usable.{Scratched}
 use Rattle.tables.specs.Recorded.{Recorded, Slotted}
-use Rattle.records.specs.Slots.{slotsAt, marksAt}
+use Rattle.records.specs.declared.layout.LineSlots.{LineSlots}
 use Rattle.records.specs.declared.Checked.{Checked}
 use Rattle.records.specs.declared.Checked.the-variants.{Good, Refused}
 
@@ -21,25 +22,25 @@ checkedSaid Good = passed
 checkedSaid (Refused x) = ruled x
 
 -- the first i records are good, and for each line a slot and a mark tell which of them is its
-pub record Passed (b a : List ℕ) (n l : ℕ) (words : List ℕ) (i : ℕ) : Type 0 where
+pub record Passed (b a : List ℕ) (slots : LineSlots) (words : List ℕ) (i : ℕ) : Type 0 where
   pub good : (j : ℕ) → j < i → badRecord b a words j ≡ false
-  pub slotted : Slotted a words i (slotsAt n l) (marksAt n l) (K b a)
+  pub slotted : Slotted a words i (slots .numbers) (slots .marks) (K b a)
 
 -- what testing record i leaves
-pub record RecordTested (b a : List ℕ) (n l p : ℕ) (words : List ℕ) (i : ℕ) (good : Bool) (m : List ℕ) : Type 0 where
+pub record RecordTested (b a : List ℕ) (at : Layout) (slots : LineSlots) (words : List ℕ) (i : ℕ) (good : Bool) (m : List ℕ) : Type 0 where
   pub said : good ≡ not (badRecord b a words i)
-  pub slotted : good ≡ true → Slotted m words (i + 1) (slotsAt n l) (marksAt n l) (K b a)
-  pub kept : Scratched n l p a m
+  pub slotted : good ≡ true → Slotted m words (i + 1) (slots .numbers) (slots .marks) (K b a)
+  pub kept : Scratched at a m
 
 -- .. and testing all of them by 12
-pub record AllTested (b a : List ℕ) (n l p : ℕ) (words : List ℕ) (count : ℕ) (r : Checked) (m : List ℕ) : Type 0 where
+pub record AllTested (b a : List ℕ) (at : Layout) (slots : LineSlots) (words : List ℕ) (count : ℕ) (r : Checked) (m : List ℕ) : Type 0 where
   pub said : checkedSaid r ≡ refuse 12 (first (badRecord b a words) count)
-  pub good : checkedSaid r ≡ passed → Passed b m n l words count
-  pub kept : Scratched n l p a m
+  pub good : checkedSaid r ≡ passed → Passed b m slots words count
+  pub kept : Scratched at a m
 
 -- .. and by 12 and 13
-pub record Tested (b a : List ℕ) (n l p : ℕ) (words : List ℕ) (count : ℕ) (r : Checked) (m : List ℕ) : Type 0 where
+pub record Tested (b a : List ℕ) (at : Layout) (slots : LineSlots) (words : List ℕ) (count : ℕ) (r : Checked) (m : List ℕ) : Type 0 where
   pub said : checkedSaid r ≡ decide (rule12 b a words count ∷ (rule13 b a (recordsIn words count) ∷ []))
-  pub slotted : checkedSaid r ≡ passed → Slotted m words count (slotsAt n l) (marksAt n l) (K b a)
+  pub slotted : checkedSaid r ≡ passed → Slotted m words count (slots .numbers) (slots .marks) (K b a)
   pub recorded : checkedSaid r ≡ passed → Recorded b a words count
-  pub kept : Scratched n l p a m
+  pub kept : Scratched at a m

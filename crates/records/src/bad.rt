@@ -4,46 +4,50 @@ ghost use Prim.Native.Nat.{_+_, _*_, _<_};
 ghost use lib.ListN.{length};
 ghost use Rattle.paper.specs.Area.{K};
 ghost use Rattle.paper.specs.Refusals.{badRecord, onLine};
-ghost use Rattle.tables.specs.UsableBy.{Usable};
+ghost use Rattle.tables.specs.Usable.{Usable};
+ghost use Rattle.records.specs.Slots.{SlotsFit};
 ghost use Rattle.records.specs.Tested.{Passed, RecordTested};
+use crate::layout::LineSlots;
 use lookup::Index;
 use on_line::index_on;
+use tables::Layout;
 use words::field::wide;
 use words::section::word_at;
 
 // Whether a node of line x stands at a position.
-fn stands_on(b: &[u8], n: usize, l: usize, p: usize, area: &[u16], x: usize, pos: usize) -> bool
-    requires { ⌜ Usable (now b) (now area) n l p ⌝ }
+fn stands_on(b: &[u8], at: Layout, area: &[u16], x: usize, pos: usize) -> bool
+    requires { ⌜ Usable (now b) (now area) at ⌝ }
     requires { ⌜ x < K (now b) (now area) ⌝ }
     ensures { λ r. ⌜ r ≡ onLine (now (b .entry)) (now (area .entry)) x pos ⌝ }
 {
-    let Index::At(_) = index_on(area, n, l, x, pos) else {
+    let Index::At(_) = index_on(area, at, x, pos) else {
         return false;
     };
     true
 }
 
 // Whether record i is bad, where the records before it are good and their lines are marked.
-fn is_bad(b: &[u8], n: usize, l: usize, p: usize, area: &[u16], words: &[u16], i: usize) -> bool
-    requires { ⌜ Usable (now b) (now area) n l p ⌝ }
-    requires { ⌜ Passed (now b) (now area) n l (now words) i ⌝ }
+fn is_bad(b: &[u8], at: Layout, area: &[u16], slots: LineSlots, words: &[u16], i: usize) -> bool
+    requires { ⌜ Usable (now b) (now area) at ⌝ }
+    requires { ⌜ SlotsFit at slots ⌝ }
+    requires { ⌜ Passed (now b) (now area) slots (now words) i ⌝ }
     requires { ⌜ 3 * i + 2 < length (now words) ⌝ }
     ensures { λ r. ⌜ r ≡ badRecord (now (b .entry)) (now (area .entry)) (now (words .entry)) i ⌝ }
 {
-    let at = 3 * i;
-    let line = wide(words[at]);
-    let lowest = word_at(words, at, 1);
-    let highest = word_at(words, at, 2);
+    let first = 3 * i;
+    let line = wide(words[first]);
+    let lowest = word_at(words, first, 1);
+    let highest = word_at(words, first, 2);
     if line >= wide(area[0]) {
         return true;
     }
-    if word_at(area, 3 + 6 * n + 5 * l + (n + l), line) != 0 {
+    if word_at(area, slots.marks, line) != 0 {
         return true;
     }
-    if !stands_on(b, n, l, p, area, line, lowest) {
+    if !stands_on(b, at, area, line, lowest) {
         return true;
     }
-    if !stands_on(b, n, l, p, area, line, highest) {
+    if !stands_on(b, at, area, line, highest) {
         return true;
     }
     highest < lowest
@@ -52,23 +56,23 @@ fn is_bad(b: &[u8], n: usize, l: usize, p: usize, area: &[u16], words: &[u16], i
 // Whether record i is good; if it is, its line gets a mark, and the record's number in its slot.
 pub fn check_record(
     b: &[u8],
-    n: usize,
-    l: usize,
-    p: usize,
+    at: Layout,
     area: &mut [u16],
+    slots: LineSlots,
     words: &[u16],
     i: usize,
 ) -> bool
-    requires { ⌜ Usable (now b) (now area) n l p ⌝ }
-    requires { ⌜ Passed (now b) (now area) n l (now words) i ⌝ }
+    requires { ⌜ Usable (now b) (now area) at ⌝ }
+    requires { ⌜ SlotsFit at slots ⌝ }
+    requires { ⌜ Passed (now b) (now area) slots (now words) i ⌝ }
     requires { ⌜ 3 * i + 2 < length (now words) ⌝ }
-    ensures { λ r. ⌜ RecordTested (now (b .entry)) (now (area .entry)) n l p (now (words .entry)) i r (now (area .exit)) ⌝ }
+    ensures { λ r. ⌜ RecordTested (now (b .entry)) (now (area .entry)) at slots (now (words .entry)) i r (now (area .exit)) ⌝ }
 {
-    if is_bad(b, n, l, p, area, words, i) {
+    if is_bad(b, at, area, slots, words, i) {
         return false;
     }
     let line = wide(words[3 * i]);
-    area[3 + 6 * n + 5 * l + line] = i as u16;
-    area[3 + 6 * n + 5 * l + (n + l) + line] = 1;
+    area[slots.numbers + line] = i as u16;
+    area[slots.marks + line] = 1;
     true
 }

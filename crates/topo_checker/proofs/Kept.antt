@@ -1,10 +1,13 @@
--- Tests over a list that was kept or mapped.
--- Rests on lists.
-use mathlib.Core.Path.{_≡_, refl, ap}
+-- Tests over a list that was kept or mapped, and numbers from a start on.
+-- Rests on lists' Upto.
+use Prim.Native.Nat.{ℕ, zero, suc, _+_}
+use native.Mathlib.Omega.{arith}
+use mathlib.Core.Path.{_≡_, refl, ap, _∙_}
 use mathlib.Core.Bool.{Bool, true, false, _&&_, _||_, not, cond}
 use mathlib.Core.List.{List, [], _∷_, map}
-use Rattle.lists.specs.Lists.{any, keep}
+use Rattle.lists.specs.Lists.{from, upto, any, keep}
 use Rattle.lists.proofs.Tests.{or-false-both}
+use Rattle.lists.proofs.Upto.{map-from-suc, table-same}
 
 module _ {A : Type 0} where
   pub any-keep : (f g : A → Bool) (xs : List A) → any f (keep g xs) ≡ any (λ x. g x && f x) xs
@@ -23,3 +26,15 @@ module _ {A : Type 0} where
 pub any-map : {A B : Type 0} (f : B → Bool) (g : A → B) (xs : List A) → any f (map g xs) ≡ any (λ x. f (g x)) xs
 any-map f g [] = refl
 any-map f g (x ∷ xs) = ap (λ (t : Bool). f (g x) || t) (any-map f g xs)
+
+pub map-from : (f : ℕ → ℕ) (n k : ℕ) → map f (from n k) ≡ map (λ x. f (n + x)) (upto k)
+map-from f zero k = table-same f (λ x. f (0 + x)) k (λ x h. ap f (plain x))
+  where
+    plain : (x : ℕ) → x ≡ 0 + x
+    plain x = omega arith
+map-from f (suc n) k =
+    map-from-suc f (λ x. f (suc x)) (λ x. refl) n k ∙ map-from (λ x. f (suc x)) n k
+    ∙ table-same (λ x. f (suc (n + x))) (λ x. f (suc n + x)) k (λ x h. ap f (further x))
+  where
+    further : (x : ℕ) → suc (n + x) ≡ suc n + x
+    further x = omega arith

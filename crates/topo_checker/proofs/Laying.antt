@@ -1,210 +1,214 @@
 -- Laying out the scratch: each section finds its own, and what is laid stands while the marks behind it are written.
--- Rests on toposort.Composing, convexity_theory.Places and tables.Within.
-use Prim.Native.Nat.{ℕ, _+_, _*_, _≤_, _<_}
+-- Rests on neighbours.Keeping, convexity_theory.Places and tables' Usable and Within.
+use Prim.Native.Nat.{ℕ, _+_, _*_, _-_, _≤_, _<_}
 use native.Mathlib.Decide.{decLt}
 use native.Mathlib.Omega.{arith}
-use mathlib.Core.Path.{_≡_, sym, ap, ap₂, _∙_, subst}
+use mathlib.Core.Path.{_≡_, refl, sym, ap, ap₂, _∙_, subst}
 use mathlib.Core.Logic.{inl}
-use mathlib.Core.List.{List, map}
+use mathlib.Core.List.{List}
 use lib.ListN.{length, getD, take, drop, set, replicate, length-replicate}
 use lib.Seq.{sets, getD-set-same, getD-set-other}
 use borrow.Author.Count.{below-none}
-use Rattle.lists.specs.Lists.{upto}
-use Rattle.lists.proofs.Sections.{part, part-same, length-part, getD-part, getD-sets-in}
-use Rattle.lists.proofs.Upto.{length-table, getD-zeros}
-use Rattle.paper.specs.Map.{N, L, P, firstPort, sourcePort}
+use Rattle.lists.proofs.Sections.{part, getD-part, getD-sets-in}
+use Rattle.lists.proofs.Upto.{getD-zeros}
+use Rattle.paper.specs.Map.{N}
 use Rattle.paper.specs.Area.{Section, size, section, orderOf}
-use Rattle.counting_sort.specs.Sorted.{startsBy, sortedBy}
-use Rattle.neighbours.specs.Tabled.{byPort}
-use Rattle.lines_theory.proofs.Written.{start-is}
-use Rattle.toposort.specs.Standing.{Indexed}
-use Rattle.toposort.specs.Laid.{Ready, firstsAt, keysAt, startsAt, sortedAt}
-use Rattle.toposort.proofs.Composing.{long-starts, long-sorted, ordering}
+use Rattle.neighbours.specs.declared.Listing.{Listing}
+use Rattle.neighbours.specs.Linked.{Free, OutgoingLaid, outgoingSize}
+use Rattle.neighbours.proofs.Keeping.{linked-behind}
 use Rattle.convexity_theory.specs.places.Places.{nodeAt, placeOf}
 use Rattle.convexity_theory.proofs.places.Places.{node-known, place-of-node, place-below, node-of-place}
+use Rattle.tables.specs.declared.Layout.{Layout}
+use Rattle.tables.specs.Placed.{scratchSize}
+use Rattle.tables.specs.Usable.{Usable, Scratched}
 use Rattle.tables.specs.Within.{Within}
-use Rattle.tables.specs.UsableBy.{Usable, Scratched, scratchAt, scratchSize}
+use Rattle.tables.proofs.Usable.{roomy, still-usable}
 use Rattle.tables.proofs.Within.{within-none, within-both, within-sets, within-set, within-wider}
-use Rattle.tables.proofs.UsableBy.{roomy}
-use Rattle.topo_checker.specs.Layout.{marksAt, LinksLaid, Ordered, PlacesKept, Placed, Laid, LaidOut}
+use Rattle.topo_checker.specs.Room.{Fits, marksSize, Ordered, PlacesKept, PlacesStand, Laid, LaidOut}
+use Rattle.topo_checker.specs.declared.layout.OrderRoom.{OrderRoom}
 use Rattle.topo_checker.proofs.Taking.{placed-still}
-
--- ---- the links by output port
-
-pub ready : {b a : List ℕ} {n l p : ℕ} → Usable b a n l p → Ready b a n l p
-ready usable = record { read = usable .read; links = usable .links; room = usable .room }
-
-module _ {b a : List ℕ} {n l p : ℕ} (ready : Ready b a n l p) {a₁ : List ℕ} (e₁ : a₁ ≡ sets a (firstsAt n l) (map (firstPort b) (upto (n + 1))))
-    {a₂ : List ℕ} (e₂ : a₂ ≡ byPort a₁ (keysAt n l) (startsAt n l) (sortedAt n l p) (map (sourcePort b) (upto l)) p) where
-  links-kept : Scratched n l p a a₂
-  unfolding byPort
-  links-kept =
-      subst (Within (scratchAt n l) (scratchSize n l p) a) (sym (e₂ ∙ ap (λ (m : List ℕ). byPort m (keysAt n l) (startsAt n l) (sortedAt n l p) (map (sourcePort b) (upto l)) p) e₁))
-      (within-sets
-      (within-sets
-      (within-sets
-      (within-sets within-none (firstsAt n l) (map (firstPort b) (upto (n + 1))) (omega arith) (omega (arith, length-table (firstPort b) (n + 1))))
-      (keysAt n l) (map (sourcePort b) (upto l)) (omega arith) (omega (arith, length-table (sourcePort b) l)))
-      (startsAt n l) (startsBy (map (sourcePort b) (upto l)) p) (omega arith) (omega (arith, long-starts ready)))
-      (sortedAt n l p) (sortedBy (map (sourcePort b) (upto l)) p) (omega arith) (omega (arith, long-sorted ready)))
-
-  pub links-laid : LinksLaid b a n l p a₂
-  links-laid = record { linked = ordering ready e₁ e₂ .index; kept = links-kept }
 
 -- ---- the places of the nodes
 
 -- the places of the first i nodes of the order are kept
-pub record KeptBelow (a : List ℕ) (n places i : ℕ) (m : List ℕ) : Type 0 where
-  pub kept : Within places n a m
-  pub placed : (j : ℕ) → j < i → getD m (places + getD a (1 + j) 0) 0 ≡ j
+pub record KeptBelow (a : List ℕ) (at : Layout) (places i : ℕ) (m : List ℕ) : Type 0 where
+  pub kept : Within places (at .sizes .nodes) a m
+  pub placed : (j : ℕ) → j < i → getD m (places + getD a (at .order + j) 0) 0 ≡ j
 
-pub kept-none : {a : List ℕ} {n places : ℕ} → KeptBelow a n places 0 a
+pub kept-none : {a : List ℕ} {at : Layout} {places : ℕ} → KeptBelow a at places 0 a
 kept-none = record { kept = within-none; placed = below-none _ }
 
-module _ {a : List ℕ} {n places : ℕ} (ordered : Ordered a n places) {i : ℕ} {m : List ℕ} (k : KeptBelow a n places i m) where
-  pub node-inside : i < n → 1 + i < length m
+module _ {a : List ℕ} {at : Layout} {places : ℕ} (ordered : Ordered a at places) {i : ℕ} {m : List ℕ} (k : KeptBelow a at places i m) where
+  pub node-inside : i < at .sizes .nodes → at .order + i < length m
   node-inside h = omega (arith, ordered .after, ordered .room, k .kept .long)
 
-  pub all-kept : i ≤ n → n ≤ i → PlacesKept a n places m
+  pub all-kept : i ≤ at .sizes .nodes → at .sizes .nodes ≤ i → PlacesKept a at places m
   all-kept low high = record { kept = k .kept; placed = λ j h. k .placed j (omega arith) }
 
-  module _ (h : i < n) {v : ℕ} (read : v ≡ getD m (1 + i) 0) where
-    is : v ≡ getD a (1 + i) 0
-    is = read ∙ k .kept .same (1 + i) (inl (omega (arith, ordered .after)))
+  module _ (h : i < at .sizes .nodes) {v : ℕ} (read : v ≡ getD m (at .order + i) 0) where
+    is : v ≡ getD a (at .order + i) 0
+    is = read ∙ k .kept .same (at .order + i) (inl (omega (arith, ordered .after)))
 
     pub place-inside : places + v < length m
     place-inside = omega (arith, is, ordered .known i h, ordered .room, k .kept .long)
 
-    pub kept-next : KeptBelow a n places (i + 1) (set m (places + v) i)
+    pub kept-next : KeptBelow a at places (i + 1) (set m (places + v) i)
     kept-next =
         record {
           kept = within-set (k .kept) (places + v) i (omega arith) (omega (arith, is, ordered .known i h));
           placed = λ j l. each j l (decLt j i);
         }
       where
-        each : (j : ℕ) → j < i + 1 → Dec (j < i) → getD (set m (places + v) i) (places + getD a (1 + j) 0) 0 ≡ j
+        each : (j : ℕ) → j < i + 1 → Dec (j < i) → getD (set m (places + v) i) (places + getD a (at .order + j) 0) 0 ≡ j
         each j l (yes g) =
-            getD-set-other m (places + v) (places + getD a (1 + j) 0) i 0
+            getD-set-other m (places + v) (places + getD a (at .order + j) 0) i 0
             (λ e. omega (arith, ordered .apart j i (omega arith) h (omega (arith, is))))
             ∙ k .placed j g
         each j l (no g) = here j (omega arith)
           where
-            here : (j : ℕ) → j ≡ i → getD (set m (places + v) i) (places + getD a (1 + j) 0) 0 ≡ j
+            here : (j : ℕ) → j ≡ i → getD (set m (places + v) i) (places + getD a (at .order + j) 0) 0 ≡ j
             here j e =
-                ap (λ (w : ℕ). getD (set m (places + v) i) (places + w) 0) (ap (λ (x : ℕ). getD a (1 + x) 0) e ∙ sym is)
+                ap (λ (w : ℕ). getD (set m (places + v) i) (places + w) 0) (ap (λ (x : ℕ). getD a (at .order + x) 0) e ∙ sym is)
                 ∙ getD-set-same m (places + v) i 0 place-inside ∙ sym e
 
 -- ---- the order's words
 
-module _ (b : List ℕ) {n : ℕ} (nodes : N b ≡ n) where
-  order-is : (a : List ℕ) → orderOf b a ≡ part a 1 n
+module _ {b a : List ℕ} {at : Layout} (usable : Usable b a at) where
+  order-is : orderOf b a ≡ part a (at .order) (at .sizes .nodes)
   unfolding orderOf section size
-  order-is a = ap₂ (λ (x y : ℕ). take x (drop y a)) nodes (start-is b Section.order)
+  order-is = ap₂ (λ (x y : ℕ). take x (drop y a)) (usable .read .nodes) (usable .placed .stands Section.order)
 
-  pub node-word : (a : List ℕ) (i : ℕ) → i < n → nodeAt b a i ≡ getD a (1 + i) 0
-  node-word a i h = ap (λ (xs : List ℕ). getD xs i 0) (order-is a) ∙ getD-part a 1 n i 0 h
+  pub node-word : (i : ℕ) → i < at .sizes .nodes → nodeAt b a i ≡ getD a (at .order + i) 0
+  node-word i h = ap (λ (xs : List ℕ). getD xs i 0) order-is ∙ getD-part a (at .order) (at .sizes .nodes) i 0 h
 
-  pub order-long : (a : List ℕ) → 1 + n ≤ length a → length (orderOf b a) ≡ n
-  order-long a fits = ap length (order-is a) ∙ length-part a 1 n fits
+  pub known-node : (i : ℕ) → i < at .sizes .nodes → i < N b
+  known-node i h = omega (arith, usable .read .nodes)
 
-  pub order-still : (a m : List ℕ) → length m ≡ length a → 1 + n ≤ length a → ((i : ℕ) → i < n → getD m (1 + i) 0 ≡ getD a (1 + i) 0) → orderOf b m ≡ orderOf b a
-  order-still a m long fits same = order-is m ∙ part-same m a 1 n 0 long fits same ∙ sym (order-is a)
+  pub before-scratch : at .order + at .sizes .nodes ≤ at .scratch
+  before-scratch = omega (arith, usable .placed)
 
--- ---- the links stand, while the marks are written
+  pub scratch-inside : at .scratch + scratchSize (at .sizes) ≤ length a
+  scratch-inside = omega (arith, usable .placed .after-scratch, usable .room)
 
-pub linked-still : {b a m : List ℕ} {n order firsts starts sorted marks : ℕ} → Indexed b a n order firsts starts sorted marks
-    → length m ≡ length a → ((i : ℕ) → i < marks → getD m i 0 ≡ getD a i 0) → Indexed b m n order firsts starts sorted marks
-linked-still {b} {a} {m} {n} {order} {firsts} {starts} {sorted} {marks} index long same =
-    record {
-      read = index .read;
-      links = index .links;
-      after-order = index .after-order;
-      after-firsts = index .after-firsts;
-      after-starts = index .after-starts;
-      after-sorted = index .after-sorted;
-      room = omega (arith, index .room);
-      firsts-stand = stands firsts (n + 1) (omega (arith, index .after-firsts, index .after-starts, index .after-sorted)) ∙ index .firsts-stand;
-      starts-stand = stands starts (P b + 1) (omega (arith, index .after-starts, index .after-sorted)) ∙ index .starts-stand;
-      sorted-stand = stands sorted (L b) (index .after-sorted) ∙ index .sorted-stand;
-    }
-  where
-    stands : (at k : ℕ) → at + k ≤ marks → part m at k ≡ part a at k
-    stands at k fits = part-same m a at k 0 long (omega (arith, index .room)) (λ i h. same (at + i) (omega arith))
+-- ---- what is laid stands, while the marks are written
 
-pub laid-still : {b a m : List ℕ} {n l p : ℕ} → Laid b a n l p → Within (marksAt n l p) (2 * n) a m → Laid b m n l p
+pub marks-in-scratch : {a m : List ℕ} {at : Layout} {room : OrderRoom} → Fits at room → Within (room .listed) (marksSize room) a m → Scratched at a m
+marks-in-scratch {at = at} fits kept = within-wider kept (at .scratch) (scratchSize (at .sizes)) (omega arith) (omega arith)
+
+pub laid-still : {b a m : List ℕ} {at : Layout} {room : OrderRoom} → Laid b a at room → Within (room .listed) (marksSize room) a m → Laid b m at room
 laid-still laid kept =
     record {
-      linked = linked-still (laid .linked) (kept .long) (λ i h. kept .same i (inl h));
+      usable = still-usable (laid .usable) (marks-in-scratch (laid .placed .fits) kept);
+      linked = linked-behind (laid .linked) kept (laid .placed .fits .after-links);
       placed = placed-still (laid .placed) kept;
     }
 
 -- ---- all of it
 
-module _ {b a : List ℕ} {n l p : ℕ} (usable : Usable b a n l p) where
-  node-is : (m : List ℕ) → Scratched n l p a m → (i : ℕ) → i < n → getD m (1 + i) 0 ≡ nodeAt b a i
-  node-is m kept i h = kept .same (1 + i) (inl (omega arith)) ∙ sym (node-word b (usable .read .nodes) a i h)
+module _ {b a : List ℕ} {at : Layout} (usable : Usable b a at) where
+  pub free : Free b a (at .sizes) (at .scratch) (outgoingSize (at .sizes))
+  free = record { read = usable .read; links = usable .links; room = omega (arith, scratch-inside usable) }
 
-  known : (i : ℕ) → i < n → i < N b
-  known i h = omega (arith, usable .read .nodes)
-
-  pub ordered : {m : List ℕ} → LinksLaid b a n l p m → Ordered m n (marksAt n l p + 2 * n)
-  ordered {m} laid =
-      record {
-        known = λ i h. omega (arith, node-is m (laid .kept) i h, node-known (usable .tables) (roomy usable) i (known i h), usable .read .nodes);
-        apart = λ i j h g e.
-            sym (place-of-node (usable .tables) (roomy usable) i (known i h))
-            ∙ ap (placeOf b a) (sym (node-is m (laid .kept) i h) ∙ e ∙ node-is m (laid .kept) j g)
-            ∙ place-of-node (usable .tables) (roomy usable) j (known j g);
-        after = omega arith;
-        room = omega (arith, usable .room, laid .kept .long);
-        small = usable .read .few-nodes;
-      }
-
-  module _ {m₁ m₂ : List ℕ} (links : LinksLaid b a n l p m₁) (places : PlacesKept m₁ n (marksAt n l p + 2 * n) m₂) where
-    node : (i : ℕ) → i < n → getD m₂ (1 + i) 0 ≡ getD m₁ (1 + i) 0
-    node i h = places .kept .same (1 + i) (inl (omega arith))
-
-    -- where node v stands
-    module _ (v : ℕ) (h : v < n) where
-      low : placeOf b a v < n
-      low = omega (arith, place-below (usable .tables) (roomy usable) v (known v h), usable .read .nodes)
-
-      stands : getD m₁ (1 + placeOf b a v) 0 ≡ v
-      stands = node-is m₁ (links .kept) (placeOf b a v) low ∙ node-of-place (usable .tables) (roomy usable) v (known v h)
-
-      place : getD m₂ (marksAt n l p + 2 * n + v) 0 ≡ placeOf b a v
-      place = ap (λ (w : ℕ). getD m₂ (marksAt n l p + 2 * n + w) 0) (sym stands) ∙ places .placed (placeOf b a v) low
-
-    placed : Placed m₂ n (marksAt n l p)
-    placed =
+  module _ {links : Listing} {m₁ : List ℕ} (laid : OutgoingLaid b a (at .sizes) (at .scratch) links m₁) where
+    abbrev room : OrderRoom
+    room =
         record {
-          after = omega arith;
-          room = omega (arith, usable .room, links .kept .long, places .kept .long);
-          small = usable .read .few-nodes;
-          node-known = λ i h. omega (arith, node i h, ordered links .known i h);
-          placed = λ i h. ap (λ (v : ℕ). getD m₂ (marksAt n l p + 2 * n + v) 0) (node i h) ∙ places .placed i h;
-          place-known = λ v h. omega (arith, place v h, low v h);
-          holds = λ v h. ap (λ (i : ℕ). getD m₂ (1 + i) 0) (place v h) ∙ node (placeOf b a v) (low v h) ∙ stands v h;
+          links = links;
+          listed = links .end;
+          future = links .end + at .sizes .nodes;
+          places = links .end + at .sizes .nodes + at .sizes .nodes;
         }
 
-    pub laid-out : {m₃ : List ℕ} → m₃ ≡ sets m₂ (marksAt n l p) (replicate (2 * n) 0) → LaidOut b a n l p m₃
-    laid-out {m₃} e =
+    pub fits : Fits at room
+    fits =
         record {
-          laid =
-              laid-still (record { linked = linked-still (links .linked) (places .kept .long) (λ i h. places .kept .same i (inl (omega arith))); placed = placed }) filled;
-          blank = λ j h. ap (λ (m : List ℕ). getD m (marksAt n l p + j) 0) e
-              ∙ getD-sets-in m₂ (marksAt n l p) (replicate (2 * n) 0) j 0 (omega (arith, many)) (omega (arith, many, placed .room))
-              ∙ getD-zeros (2 * n) j;
-          kept =
-              within-both (links .kept)
-              (within-both (within-wider (places .kept) (scratchAt n l) (scratchSize n l p) (omega arith) (omega arith))
-              (within-wider filled (scratchAt n l) (scratchSize n l p) (omega arith) (omega arith)));
+          before-links = omega (arith, laid .first);
+          links = omega (arith, laid .linked);
+          after-links = omega arith;
+          after-listed = omega arith;
+          after-future = omega arith;
+          after-places = omega (arith, laid .last);
         }
-      where
-        many : length {A = ℕ} (replicate (2 * n) 0) ≡ 2 * n
-        many = length-replicate {A = ℕ} (2 * n) 0
 
-        filled : Within (marksAt n l p) (2 * n) m₂ m₃
-        filled =
-            subst (Within (marksAt n l p) (2 * n) m₂) (sym e)
-            (within-sets within-none (marksAt n l p) (replicate (2 * n) 0) (omega arith) (omega (arith, many)))
+    links-kept : Scratched at a m₁
+    links-kept = within-wider (laid .kept) (at .scratch) (scratchSize (at .sizes)) (omega arith) (omega arith)
+
+    now : Usable b m₁ at
+    now = still-usable usable links-kept
+
+    pub ordered : Ordered m₁ at (room .places)
+    ordered =
+        record {
+          known = λ i h.
+              omega (arith, node-word now i h, node-known (now .tables) (roomy now) i (known-node now i h), now .read .nodes);
+          apart = λ i j h g e.
+              sym (place-of-node (now .tables) (roomy now) i (known-node now i h))
+              ∙ ap (placeOf b m₁) (node-word now i h ∙ e ∙ sym (node-word now j g))
+              ∙ place-of-node (now .tables) (roomy now) j (known-node now j g);
+          after = omega (arith, before-scratch now, fits);
+          room = omega (arith, scratch-inside now, fits);
+          small = now .read .few-nodes;
+        }
+
+    module _ {m₂ : List ℕ} (places : PlacesKept m₁ at (room .places) m₂) where
+      node : (i : ℕ) → i < at .sizes .nodes → getD m₂ (at .order + i) 0 ≡ getD m₁ (at .order + i) 0
+      node i h = places .kept .same (at .order + i) (inl (omega (arith, before-scratch now, fits)))
+
+      -- where node v stands
+      module _ (v : ℕ) (h : v < at .sizes .nodes) where
+        low : placeOf b m₁ v < at .sizes .nodes
+        low = omega (arith, place-below (now .tables) (roomy now) v (known-node now v h), now .read .nodes)
+
+        stands : getD m₁ (at .order + placeOf b m₁ v) 0 ≡ v
+        stands = sym (node-word now (placeOf b m₁ v) low) ∙ node-of-place (now .tables) (roomy now) v (known-node now v h)
+
+        place : getD m₂ (room .places + v) 0 ≡ placeOf b m₁ v
+        place = ap (λ (w : ℕ). getD m₂ (room .places + w) 0) (sym stands) ∙ places .placed (placeOf b m₁ v) low
+
+      places-kept : Scratched at m₁ m₂
+      places-kept = within-wider (places .kept) (at .scratch) (scratchSize (at .sizes)) (omega (arith, fits)) (omega (arith, fits))
+
+      placed : PlacesStand m₂ at room
+      placed =
+          record {
+            fits = fits;
+            after-order = before-scratch now;
+            inside = omega (arith, scratch-inside now, places .kept .long);
+            small = now .read .few-nodes;
+            node-known = λ i h. omega (arith, node i h, ordered .known i h);
+            placed = λ i h. ap (λ (v : ℕ). getD m₂ (room .places + v) 0) (node i h) ∙ places .placed i h;
+            place-known = λ v h. omega (arith, place v h, low v h);
+            holds = λ v h. ap (λ (i : ℕ). getD m₂ (at .order + i) 0) (place v h) ∙ node (placeOf b m₁ v) (low v h) ∙ stands v h;
+          }
+
+      pub laid-out : {m₃ : List ℕ} → m₃ ≡ sets m₂ (room .listed) (replicate (2 * at .sizes .nodes) 0) → LaidOut b a at room m₃
+      laid-out {m₃} e =
+          record {
+            laid =
+                laid-still
+                (record {
+                  usable = still-usable now places-kept;
+                  linked = linked-behind (laid .linked) (places .kept) (omega arith);
+                  placed = placed;
+                }) filled;
+            unlisted = λ j h. blank j (omega arith);
+            fresh = λ j h. ap (λ (k : ℕ). getD m₃ k 0) (assoc (links .end) (at .sizes .nodes) j) ∙ blank (at .sizes .nodes + j) (omega arith);
+            kept = within-both links-kept (within-both places-kept (marks-in-scratch fits filled));
+          }
+        where
+          many : length {A = ℕ} (replicate (2 * at .sizes .nodes) 0) ≡ 2 * at .sizes .nodes
+          many = length-replicate {A = ℕ} (2 * at .sizes .nodes) 0
+
+          filled : Within (room .listed) (marksSize room) m₂ m₃
+          filled =
+              subst (Within (room .listed) (marksSize room) m₂) (sym e)
+              (within-sets within-none (room .listed) (replicate (2 * at .sizes .nodes) 0) (omega arith) (omega (arith, many)))
+
+          blank : (j : ℕ) → j < 2 * at .sizes .nodes → getD m₃ (room .listed + j) 0 ≡ 0
+          blank j h =
+              ap (λ (m : List ℕ). getD m (room .listed + j) 0) e
+              ∙ getD-sets-in m₂ (room .listed) (replicate (2 * at .sizes .nodes) 0) j 0 (omega (arith, many)) (omega (arith, many, placed, fits))
+              ∙ getD-zeros (2 * at .sizes .nodes) j
+
+          assoc : (x y z : ℕ) → x + y + z ≡ x + (y + z)
+          assoc x y z = omega arith

@@ -1,10 +1,10 @@
 pub mod Ends
 pub mod Kept
 pub mod Marks
-pub mod Nearby
 pub mod Taking
 pub mod Laying
 pub mod Neighbours
+pub mod Nearby
 pub mod Following
 pub mod Marked
 pub mod Checking

@@ -12,10 +12,11 @@ use denote.Enum.Declared.{tagOf}
 use Rattle.lists.specs.Lists.{greatest, least}
 use Rattle.paper.specs.Intervals.{Yes, No}
 use Rattle.convexity_theory.specs.places.Passed.{passedBelow, replyOf}
+use Rattle.tables.specs.declared.Layout.{Layout}
 use Rattle.tables.proofs.Within.{within-none}
-use Rattle.topo_checker.specs.Layout.{marksAt}
 use Rattle.topo_checker.specs.Listing.{Spans, Under, ExtentOf}
 use Rattle.topo_checker.specs.Passing.{Unpassed, PlacesPassed, Fresh, MarkedBy, passingOver, MarkedChecked}
+use Rattle.topo_checker.specs.declared.layout.OrderRoom.{OrderRoom}
 use Rattle.topo_checker.specs.declared.listing.Extent.{Extent}
 use Rattle.topo_checker.specs.declared.listing.Extent.the-variants.{Nothing, One, Range}
 use Rattle.topo_checker.proofs.listing.Extent.{the-type}
@@ -30,8 +31,8 @@ turned-round : (fed : Bool) → cond (not fed) Yes No ≡ cond fed No Yes
 turned-round true = refl
 turned-round false = refl
 
-module _ (b : List ℕ) {a : List ℕ} {n : ℕ} (l p : ℕ) {e : Extent} (extent : ExtentOf a (marksAt n l p) n e) where
-  pub few-marked : OneOf (0 ∷ 1 ∷ []) (tagOf the-type e) → MarkedChecked b a n l p true a
+module _ (b : List ℕ) {a : List ℕ} (at : Layout) (room : OrderRoom) {e : Extent} (extent : ExtentOf a (room .listed) (at .sizes .nodes) e) where
+  pub few-marked : OneOf (0 ∷ 1 ∷ []) (tagOf the-type e) → MarkedChecked b a at room true a
   unfolding passingOver
   few-marked h =
       record {
@@ -43,15 +44,15 @@ module _ (b : List ℕ) {a : List ℕ} {n : ℕ} (l p : ℕ) {e : Extent} (exten
       }
 
   module _ {first last : ℕ} (is : e ≡ Range first last) where
-    pub unpassed : Fresh a n l p → Unpassed a n l p first last
+    pub unpassed : Fresh a at room → Unpassed a at room first last
     unpassed fresh =
-        let ends : Under n (Range first last) = subst (Under n) is (extent .under) in
+        let ends : Under (at .sizes .nodes) (Range first last) = subst (Under (at .sizes .nodes)) is (extent .under) in
         record { blank = fresh .blank; rises = omega (arith, ends .0); known = ends .1 }
 
-    ends : {places : List ℕ} → MarkedBy a n (marksAt n l p) places → (2 ≤ length places) × (least places ≡ first) × (greatest places ≡ last)
+    ends : {places : List ℕ} → MarkedBy a at room places → (2 ≤ length places) × (least places ≡ first) × (greatest places ≡ last)
     ends {places} by = subst (Spans places) is (subst (λ (xs : List ℕ). Spans xs e) (by .whole) (extent .spans))
 
-    pub range-marked : {fed : Bool} {m : List ℕ} → PlacesPassed b a n l p first last fed m → MarkedChecked b a n l p (not fed) m
+    pub range-marked : {fed : Bool} {m : List ℕ} → PlacesPassed b a at room first last fed m → MarkedChecked b a at room (not fed) m
     unfolding passingOver
     range-marked {fed} run =
         record {

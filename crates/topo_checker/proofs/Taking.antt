@@ -20,11 +20,13 @@ use Rattle.paper.specs.Map.{word}
 use Rattle.paper.specs.Words.{wordsFrom}
 use Rattle.paper.specs.Refusals.{refuse, earliest}
 use Rattle.refusals.proofs.Rulings.{no-refusal}
+use Rattle.tables.specs.declared.Layout.{Layout}
 use Rattle.tables.specs.Within.{Within}
 use Rattle.tables.proofs.Within.{within-none, within-set, within-wider}
 use Rattle.convexity_theory.proofs.places.Rows.{any-append}
-use Rattle.topo_checker.specs.Layout.{Placed}
 use Rattle.topo_checker.specs.Listing.{NodeTaken, Unlisted, ListTaken, markedPlaces, wider, extentBelow, Spans, Under, ExtentOf}
+use Rattle.topo_checker.specs.Room.{marksSize, PlacesStand}
+use Rattle.topo_checker.specs.declared.layout.OrderRoom.{OrderRoom}
 use Rattle.topo_checker.specs.declared.listing.Listed.the-variants.{Marked, Unknown}
 use Rattle.topo_checker.specs.declared.listing.Extent.{Extent}
 use Rattle.topo_checker.specs.declared.listing.Extent.the-variants.{Nothing, One, Range}
@@ -32,121 +34,122 @@ use Rattle.topo_checker.proofs.Ends.{greatest-more, least-more}
 
 -- ---- one node
 
-pub node-unknown : (a : List ℕ) (n marks v : ℕ) → n ≤ v → NodeTaken a n marks v false a
-node-unknown a n marks v h = record { known = sym (le-ltb v n h); left = rw (le-ltb v n h) }
+pub node-unknown : (a : List ℕ) (at : Layout) (room : OrderRoom) (v : ℕ) → at .sizes .nodes ≤ v → NodeTaken a at room v false a
+node-unknown a at room v h = record { known = sym (le-ltb v (at .sizes .nodes) h); left = rw (le-ltb v (at .sizes .nodes) h) }
 
-module _ {a : List ℕ} {n marks v i : ℕ} (placed : Placed a n marks) (h : v < n) (read : i ≡ getD a (marks + 2 * n + v) 0) where
-  pub mark-inside : marks + i < length a
-  mark-inside = omega (arith, placed .place-known v h, placed .room)
+module _ {a : List ℕ} {at : Layout} {room : OrderRoom} {v i : ℕ} (placed : PlacesStand a at room) (h : v < at .sizes .nodes) (read : i ≡ getD a (room .places + v) 0) where
+  pub mark-inside : room .listed + i < length a
+  mark-inside = omega (arith, placed .place-known v h, placed)
 
-  pub node-marked : NodeTaken a n marks v true (set a (marks + i) 1)
-  node-marked = record { known = sym (lt-ltb v n h); left = rw (lt-ltb v n h) (ap (λ (j : ℕ). set a (marks + j) 1) read) }
+  pub node-marked : NodeTaken a at room v true (set a (room .listed + i) 1)
+  node-marked = record { known = sym (lt-ltb v (at .sizes .nodes) h); left = rw (lt-ltb v (at .sizes .nodes) h) (ap (λ (j : ℕ). set a (room .listed + j) 1) read) }
 
 -- the places stand, while marks are written
-pub placed-still : {a m : List ℕ} {n marks : ℕ} → Placed a n marks → Within marks (2 * n) a m → Placed m n marks
-placed-still {a} {m} {n} {marks} placed kept =
+pub placed-still : {a m : List ℕ} {at : Layout} {room : OrderRoom} → PlacesStand a at room → Within (room .listed) (marksSize room) a m → PlacesStand m at room
+placed-still {a} {m} {at} {room} placed kept =
     record {
-      after = placed .after;
-      room = omega (arith, placed .room, kept .long);
+      fits = placed .fits;
+      after-order = placed .after-order;
+      inside = omega (arith, placed .inside, kept .long);
       small = placed .small;
       node-known = λ i h. omega (arith, node i h, placed .node-known i h);
-      placed = λ i h. ap (λ (v : ℕ). getD m (marks + 2 * n + v) 0) (node i h) ∙ place (getD a (1 + i) 0) ∙ placed .placed i h;
+      placed = λ i h. ap (λ (v : ℕ). getD m (room .places + v) 0) (node i h) ∙ place (getD a (at .order + i) 0) ∙ placed .placed i h;
       place-known = λ v h. omega (arith, place v, placed .place-known v h);
-      holds = λ v h. ap (λ (i : ℕ). getD m (1 + i) 0) (place v) ∙ node (getD a (marks + 2 * n + v) 0) (placed .place-known v h) ∙ placed .holds v h;
+      holds = λ v h. ap (λ (i : ℕ). getD m (at .order + i) 0) (place v) ∙ node (getD a (room .places + v) 0) (placed .place-known v h) ∙ placed .holds v h;
     }
   where
-    node : (i : ℕ) → i < n → getD m (1 + i) 0 ≡ getD a (1 + i) 0
-    node i h = kept .same (1 + i) (inl (omega (arith, placed .after)))
+    node : (i : ℕ) → i < at .sizes .nodes → getD m (at .order + i) 0 ≡ getD a (at .order + i) 0
+    node i h = kept .same (at .order + i) (inl (omega arith))
 
-    place : (v : ℕ) → getD m (marks + 2 * n + v) 0 ≡ getD a (marks + 2 * n + v) 0
-    place v = kept .same (marks + 2 * n + v) (inr (omega arith))
+    place : (v : ℕ) → getD m (room .places + v) 0 ≡ getD a (room .places + v) 0
+    place v = kept .same (room .places + v) (inr (omega arith))
 
 -- ---- the list, entry by entry
 
 -- the first i entries are known, and the places of their nodes are marked
-pub record TakenBelow (a : List ℕ) (n marks : ℕ) (list : List ℕ) (i : ℕ) (m : List ℕ) : Type 0 where
-  pub known : (k : ℕ) → k < i → leb n (getD list k 0) ≡ false
-  pub kept : Within marks n a m
-  pub marked : (j : ℕ) → j < n → getD m (marks + j) 0 ≡ one (member (getD a (1 + j) 0) (take i list))
+pub record TakenBelow (a : List ℕ) (at : Layout) (room : OrderRoom) (list : List ℕ) (i : ℕ) (m : List ℕ) : Type 0 where
+  pub known : (k : ℕ) → k < i → leb (at .sizes .nodes) (getD list k 0) ≡ false
+  pub kept : Within (room .listed) (at .sizes .nodes) a m
+  pub marked : (j : ℕ) → j < at .sizes .nodes → getD m (room .listed + j) 0 ≡ one (member (getD a (at .order + j) 0) (take i list))
 
-pub taken-none : {a : List ℕ} {n marks : ℕ} → Unlisted a n marks → (list : List ℕ) → TakenBelow a n marks list 0 a
+pub taken-none : {a : List ℕ} {at : Layout} {room : OrderRoom} → Unlisted a at room → (list : List ℕ) → TakenBelow a at room list 0 a
 taken-none unlisted list =
     record { known = λ k h. absurd (omega arith); kept = within-none; marked = λ j h. unlisted .blank j h }
 
 member-more : (x v : ℕ) (xs : List ℕ) (t : Bool) → eqb x v ≡ t → member x (xs ++ (v ∷ [])) ≡ (member x xs || t)
 member-more x v xs t e = any-append (eqb x) xs (v ∷ []) ∙ ap (λ (s : Bool). member x xs || s) (or-false (eqb x v) ∙ e)
 
-module _ {a : List ℕ} {n marks : ℕ} (placed : Placed a n marks) {list : List ℕ} {i : ℕ} {m : List ℕ}
-    (taken : TakenBelow a n marks list i m) where
-  pub placed-now : Placed m n marks
-  placed-now = placed-still placed (within-wider (taken .kept) marks (2 * n) (omega arith) (omega arith))
+module _ {a : List ℕ} {at : Layout} {room : OrderRoom} (placed : PlacesStand a at room) {list : List ℕ} {i : ℕ} {m : List ℕ}
+    (taken : TakenBelow a at room list i m) where
+  pub placed-now : PlacesStand m at room
+  placed-now = placed-still placed (within-wider (taken .kept) (room .listed) (marksSize room) (omega arith) (omega arith))
 
-  module _ {v : ℕ} (inside : i < length list) (is : v ≡ getD list i 0) {r : Bool} {m' : List ℕ} (node : NodeTaken m n marks v r m') where
-    pub taken-next : not r ≡ false → TakenBelow a n marks list (i + 1) m'
+  module _ {v : ℕ} (inside : i < length list) (is : v ≡ getD list i 0) {r : Bool} {m' : List ℕ} (node : NodeTaken m at room v r m') where
+    pub taken-next : not r ≡ false → TakenBelow a at room list (i + 1) m'
     taken-next e =
         record {
-          known = below-more _ i (taken .known) (lt-leb n (getD list i 0) (omega (arith, is, low)));
-          kept = subst (Within marks n a) (sym wrote) (within-set (taken .kept) (marks + getD a (marks + 2 * n + v) 0) 1 (omega arith) (omega (arith, place-low)));
-          marked = λ j h. ap (λ (w : List ℕ). getD w (marks + j) 0) wrote ∙ each j h (ℕ-discrete j (getD a (marks + 2 * n + v) 0));
+          known = below-more _ i (taken .known) (lt-leb (at .sizes .nodes) (getD list i 0) (omega (arith, is, low)));
+          kept = subst (Within (room .listed) (at .sizes .nodes) a) (sym wrote) (within-set (taken .kept) (room .listed + getD a (room .places + v) 0) 1 (omega arith) (omega (arith, place-low)));
+          marked = λ j h. ap (λ (w : List ℕ). getD w (room .listed + j) 0) wrote ∙ each j h (ℕ-discrete j (getD a (room .places + v) 0));
         }
       where
-        test : ltb v n ≡ true
+        test : ltb v (at .sizes .nodes) ≡ true
         test = sym (node .known) ∙ not-false r e
 
-        low : v < n
-        low = ltb-true v n test
+        low : v < at .sizes .nodes
+        low = ltb-true v (at .sizes .nodes) test
 
-        place-low : getD a (marks + 2 * n + v) 0 < n
+        place-low : getD a (room .places + v) 0 < at .sizes .nodes
         place-low = placed .place-known v low
 
-        wrote : m' ≡ set m (marks + getD a (marks + 2 * n + v) 0) 1
+        wrote : m' ≡ set m (room .listed + getD a (room .places + v) 0) 1
         wrote =
-            node .left ∙ ap (λ (t : Bool). cond t (set m (marks + getD m (marks + 2 * n + v) 0) 1) m) test
-            ∙ ap (λ (k : ℕ). set m (marks + k) 1) (taken .kept .same (marks + 2 * n + v) (inr (omega arith)))
+            node .left ∙ ap (λ (t : Bool). cond t (set m (room .listed + getD m (room .places + v) 0) 1) m) test
+            ∙ ap (λ (k : ℕ). set m (room .listed + k) 1) (taken .kept .same (room .places + v) (inr (omega arith)))
 
         more : take (i + 1) list ≡ take i list ++ (v ∷ [])
         more =
             ap (λ (k : ℕ). take k list) (add-one i) ∙ take-suc list i 0 inside ∙ ap (λ (x : ℕ). take i list ++ (x ∷ [])) (sym is)
 
-        entry : (j : ℕ) (t : Bool) → eqb (getD a (1 + j) 0) v ≡ t
-            → one (member (getD a (1 + j) 0) (take i list) || t) ≡ one (member (getD a (1 + j) 0) (take (i + 1) list))
+        entry : (j : ℕ) (t : Bool) → eqb (getD a (at .order + j) 0) v ≡ t
+            → one (member (getD a (at .order + j) 0) (take i list) || t) ≡ one (member (getD a (at .order + j) 0) (take (i + 1) list))
         entry j t e =
-            ap one (sym (ap (member (getD a (1 + j) 0)) more ∙ member-more (getD a (1 + j) 0) v (take i list) t e))
+            ap one (sym (ap (member (getD a (at .order + j) 0)) more ∙ member-more (getD a (at .order + j) 0) v (take i list) t e))
 
-        each : (j : ℕ) → j < n → Dec (j ≡ getD a (marks + 2 * n + v) 0)
-            → getD (set m (marks + getD a (marks + 2 * n + v) 0) 1) (marks + j) 0 ≡ one (member (getD a (1 + j) 0) (take (i + 1) list))
+        each : (j : ℕ) → j < at .sizes .nodes → Dec (j ≡ getD a (room .places + v) 0)
+            → getD (set m (room .listed + getD a (room .places + v) 0) 1) (room .listed + j) 0 ≡ one (member (getD a (at .order + j) 0) (take (i + 1) list))
         each j h (yes e) =
-            ap (λ (k : ℕ). getD (set m (marks + getD a (marks + 2 * n + v) 0) 1) (marks + k) 0) e
-            ∙ getD-set-same m (marks + getD a (marks + 2 * n + v) 0) 1 0 (omega (arith, place-low, placed .room, taken .kept .long))
-            ∙ sym (ap one (or-true (member (getD a (1 + j) 0) (take i list))))
-            ∙ entry j true (eq-eqb (getD a (1 + j) 0) v (ap (λ (k : ℕ). getD a (1 + k) 0) e ∙ placed .holds v low))
+            ap (λ (k : ℕ). getD (set m (room .listed + getD a (room .places + v) 0) 1) (room .listed + k) 0) e
+            ∙ getD-set-same m (room .listed + getD a (room .places + v) 0) 1 0 (omega (arith, place-low, placed, taken .kept .long))
+            ∙ sym (ap one (or-true (member (getD a (at .order + j) 0) (take i list))))
+            ∙ entry j true (eq-eqb (getD a (at .order + j) 0) v (ap (λ (k : ℕ). getD a (at .order + k) 0) e ∙ placed .holds v low))
         each j h (no ne) =
-            getD-set-other m (marks + getD a (marks + 2 * n + v) 0) (marks + j) 1 0 (λ e. ne (omega arith))
+            getD-set-other m (room .listed + getD a (room .places + v) 0) (room .listed + j) 1 0 (λ e. ne (omega arith))
             ∙ taken .marked j h
-            ∙ sym (ap one (or-false (member (getD a (1 + j) 0) (take i list))))
-            ∙ entry j false (ne-eqb (getD a (1 + j) 0) v (λ e. ne (sym (placed .placed j h) ∙ ap (λ (k : ℕ). getD a (marks + 2 * n + k) 0) e)))
+            ∙ sym (ap one (or-false (member (getD a (at .order + j) 0) (take i list))))
+            ∙ entry j false (ne-eqb (getD a (at .order + j) 0) v (λ e. ne (sym (placed .placed j h) ∙ ap (λ (k : ℕ). getD a (room .places + k) 0) e)))
 
     -- the first unknown entry
-    pub unknown-taken : not r ≡ true → ListTaken a n marks list (Unknown i) m'
+    pub unknown-taken : not r ≡ true → ListTaken a at room list (Unknown i) m'
     unfolding earliest refuse
     unknown-taken e =
         record {
-          said = ap (refuse 9) (sym (first-is (λ k. leb n (getD list k 0)) (length list) i
-              (record { known = inside; passes = le-leb n (getD list i 0) (omega (arith, is, ltb-false v n test)); fail = taken .known })));
-          kept = subst (Within marks n a) (sym (node .left ∙ ap (λ (t : Bool). cond t (set m (marks + getD m (marks + 2 * n + v) 0) 1) m) test)) (taken .kept);
+          said = ap (refuse 9) (sym (first-is (λ k. leb (at .sizes .nodes) (getD list k 0)) (length list) i
+              (record { known = inside; passes = le-leb (at .sizes .nodes) (getD list i 0) (omega (arith, is, ltb-false v (at .sizes .nodes) test)); fail = taken .known })));
+          kept = subst (Within (room .listed) (at .sizes .nodes) a) (sym (node .left ∙ ap (λ (t : Bool). cond t (set m (room .listed + getD m (room .places + v) 0) 1) m) test)) (taken .kept);
           marked = λ p. absurd (no-refusal (sym p));
         }
       where
-        test : ltb v n ≡ false
+        test : ltb v (at .sizes .nodes) ≡ false
         test = sym (node .known) ∙ not-true r e
 
-  pub all-taken : length list ≤ i → i ≤ length list → ListTaken a n marks list Marked m
+  pub all-taken : length list ≤ i → i ≤ length list → ListTaken a at room list Marked m
   unfolding earliest refuse
   all-taken high low =
       record {
-        said = ap (refuse 9) (sym (first-none (λ k. leb n (getD list k 0)) (length list) (λ k h. taken .known k (omega arith))));
+        said = ap (refuse 9) (sym (first-none (λ k. leb (at .sizes .nodes) (getD list k 0)) (length list) (λ k h. taken .known k (omega arith))));
         kept = taken .kept;
-        marked = λ p j h. taken .marked j h ∙ ap (λ (xs : List ℕ). one (member (getD a (1 + j) 0) xs)) (take-all i list high);
+        marked = λ p j h. taken .marked j h ∙ ap (λ (xs : List ℕ). one (member (getD a (at .order + j) 0) xs)) (take-all i list high);
       }
 
 -- entry i of a list in bytes

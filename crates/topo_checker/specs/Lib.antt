@@ -1,4 +1,4 @@
-pub mod Layout
+pub mod Room
 pub mod Listing
 pub mod Near
 pub mod Passing

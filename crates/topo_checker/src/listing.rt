@@ -5,22 +5,24 @@ ghost use Prim.Native.Nat.{_+_, _≤_, _<_};
 ghost use lib.Dec.{eqb};
 ghost use lib.ListN.{length, getD};
 ghost use Rattle.paper.specs.Words.{wordsFrom};
-ghost use Rattle.topo_checker.specs.Layout.{Placed};
 ghost use Rattle.topo_checker.specs.Listing.{ExtentOf, ListTaken, NodeTaken, Unlisted, wider};
+ghost use Rattle.topo_checker.specs.Room.{PlacesStand};
+use super::layout::OrderRoom;
+use tables::Layout;
 use words::field::field_at;
 use words::field::wide;
 use words::section::word_at;
 
 // Marks the place of node v, if there is such a node; whether there is.
-pub fn take_node(n: usize, area: &mut [u16], marks: usize, v: usize) -> bool
-    requires { ⌜ Placed (now area) n marks ⌝ }
-    ensures { λ r. ⌜ NodeTaken (now (area .entry)) n marks v r (now (area .exit)) ⌝ }
+pub fn take_node(at: Layout, area: &mut [u16], room: OrderRoom, v: usize) -> bool
+    requires { ⌜ PlacesStand (now area) at room ⌝ }
+    ensures { λ r. ⌜ NodeTaken (now (area .entry)) at room v r (now (area .exit)) ⌝ }
 {
-    if v >= n {
+    if v >= at.sizes.nodes {
         return false;
     }
-    let i = word_at(area, marks + 2 * n, v);
-    area[marks + i] = 1;
+    let i = word_at(area, room.places, v);
+    area[room.listed + i] = 1;
     true
 }
 
@@ -31,15 +33,15 @@ pub enum Listed {
 }
 
 // Takes in the list, an entry at a time: 9 is the first unknown one.
-pub fn take_list(n: usize, area: &mut [u16], marks: usize, list: &[u16]) -> Listed
-    requires { ⌜ Placed (now area) n marks ⌝ }
-    requires { ⌜ Unlisted (now area) n marks ⌝ }
-    ensures { λ r. ⌜ ListTaken (now (area .entry)) n marks (now (list .entry)) r (now (area .exit)) ⌝ }
+pub fn take_list(at: Layout, area: &mut [u16], room: OrderRoom, list: &[u16]) -> Listed
+    requires { ⌜ PlacesStand (now area) at room ⌝ }
+    requires { ⌜ Unlisted (now area) at room ⌝ }
+    ensures { λ r. ⌜ ListTaken (now (area .entry)) at room (now (list .entry)) r (now (area .exit)) ⌝ }
 {
     let mut i = 0;
     while i < list.len() {
         let v = wide(list[i]);
-        if !take_node(n, area, marks, v) {
+        if !take_node(at, area, room, v) {
             return Listed::Unknown(i);
         }
         i += 1;
@@ -48,16 +50,16 @@ pub fn take_list(n: usize, area: &mut [u16], marks: usize, list: &[u16]) -> List
 }
 
 // The same of a list whose words cross as bytes.
-pub fn take_list_bytes(n: usize, area: &mut [u16], marks: usize, list: &[u8]) -> Listed
-    requires { ⌜ Placed (now area) n marks ⌝ }
-    requires { ⌜ Unlisted (now area) n marks ⌝ }
-    ensures { λ r. ⌜ ListTaken (now (area .entry)) n marks (wordsFrom (now (list .entry))) r (now (area .exit)) ⌝ }
+pub fn take_list_bytes(at: Layout, area: &mut [u16], room: OrderRoom, list: &[u8]) -> Listed
+    requires { ⌜ PlacesStand (now area) at room ⌝ }
+    requires { ⌜ Unlisted (now area) at room ⌝ }
+    ensures { λ r. ⌜ ListTaken (now (area .entry)) at room (wordsFrom (now (list .entry))) r (now (area .exit)) ⌝ }
 {
     let count = list.len() / 2;
     let mut i = 0;
     while i < count {
         let v = wide(field_at(list, 2 * i));
-        if !take_node(n, area, marks, v) {
+        if !take_node(at, area, room, v) {
             return Listed::Unknown(i);
         }
         i += 1;

@@ -1,69 +1,65 @@
 // Translated from src/algorithms/convex/topo_convex_checker.rs of portgraph (88172a3c8e, Apache-2.0, see NOTICE), and changed: the two
 // sets are marks, and the places from the first listed one to the last are passed one after the other.
 ghost use Prim.Native.Nat.{_<_};
-ghost use Rattle.topo_checker.specs.Layout.{Laid};
 ghost use Rattle.topo_checker.specs.Passing.{Fresh, MarkedChecked, PlacePassed, PlacesPassed, Unpassed};
+ghost use Rattle.topo_checker.specs.Room.{Laid};
+use super::layout::OrderRoom;
 use super::listing::Extent;
 use super::listing::marked_extent;
 use super::near::mark_others;
 use super::near::meets_listed;
-use toposort::turns::links_start;
+use neighbours::targets_start;
+use tables::Layout;
 use words::section::word_at;
 
 // Passes place i: puts its neighbours outside the list into the list's future, if it is listed or in that future itself; whether it is
 // not listed, in the future, and feeds the list.
 fn pass_place(
     b: &[u8],
-    n: usize,
-    l: usize,
-    p: usize,
+    at: Layout,
     area: &mut [u16],
+    room: OrderRoom,
     first: usize,
     last: usize,
     i: usize,
 ) -> bool
-    requires { ⌜ Laid (now b) (now area) n l p ⌝ }
-    requires { ⌜ i < n ⌝ }
-    ensures { λ r. ⌜ PlacePassed (now (b .entry)) (now (area .entry)) n l p first last i r (now (area .exit)) ⌝ }
+    requires { ⌜ Laid (now b) (now area) at room ⌝ }
+    requires { ⌜ i < at .sizes .nodes ⌝ }
+    ensures { λ r. ⌜ PlacePassed (now (b .entry)) (now (area .entry)) at room first last i r (now (area .exit)) ⌝ }
 {
-    let firsts = 3 + 6 * n + 5 * l;
-    let starts = firsts + (n + 1) + l;
-    let sorted = starts + (p + 1);
-    let marks = sorted + l;
-    let v = word_at(area, 1, i);
-    let start = links_start(area, firsts, starts, v);
-    let count = links_start(area, firsts, starts, v + 1) - start;
-    if word_at(area, marks, i) != 0 {
-        mark_others(b, n, area, sorted, marks, start, count, first, last);
+    let v = word_at(area, at.order, i);
+    let start = targets_start(b, at.sizes, area, room.links, v);
+    let count = targets_start(b, at.sizes, area, room.links, v + 1) - start;
+    if word_at(area, room.listed, i) != 0 {
+        mark_others(b, at, area, room, start, count, first, last);
         return false;
     }
-    if word_at(area, marks + n, i) == 0 {
+    if word_at(area, room.future, i) == 0 {
         return false;
     }
-    if meets_listed(b, n, area, sorted, marks, start, count, first, last) {
+    if meets_listed(b, at, area, room, start, count, first, last) {
         return true;
     }
-    mark_others(b, n, area, sorted, marks, start, count, first, last);
+    mark_others(b, at, area, room, start, count, first, last);
     false
 }
 
 // Whether a place that is not listed, and in the list's future, feeds the list.
 fn fed_back(
     b: &[u8],
-    n: usize,
-    l: usize,
-    p: usize,
+    at: Layout,
     area: &mut [u16],
+    room: OrderRoom,
     first: usize,
     last: usize,
 ) -> bool
-    requires { ⌜ Laid (now b) (now area) n l p ⌝ }
-    requires { ⌜ Unpassed (now area) n l p first last ⌝ }
-    ensures { λ r. ⌜ PlacesPassed (now (b .entry)) (now (area .entry)) n l p first last r (now (area .exit)) ⌝ }
+    requires { ⌜ Laid (now b) (now area) at room ⌝ }
+    requires { ⌜ Unpassed (now area) at room first last ⌝ }
+    ensures { λ r. ⌜ PlacesPassed (now (b .entry)) (now (area .entry)) at room first last r (now (area .exit)) ⌝ }
 {
     let mut i = first;
     while i <= last {
-        if pass_place(b, n, l, p, area, first, last, i) {
+        if pass_place(b, at, area, room, first, last, i) {
             return true;
         }
         i += 1;
@@ -72,15 +68,14 @@ fn fed_back(
 }
 
 // Whether the places marked as listed are convex: yes for one at most, and where no other place feeds them from their future.
-pub fn marked_convex(b: &[u8], n: usize, l: usize, p: usize, area: &mut [u16]) -> bool
-    requires { ⌜ Laid (now b) (now area) n l p ⌝ }
-    requires { ⌜ Fresh (now area) n l p ⌝ }
-    ensures { λ r. ⌜ MarkedChecked (now (b .entry)) (now (area .entry)) n l p r (now (area .exit)) ⌝ }
+pub fn marked_convex(b: &[u8], at: Layout, area: &mut [u16], room: OrderRoom) -> bool
+    requires { ⌜ Laid (now b) (now area) at room ⌝ }
+    requires { ⌜ Fresh (now area) at room ⌝ }
+    ensures { λ r. ⌜ MarkedChecked (now (b .entry)) (now (area .entry)) at room r (now (area .exit)) ⌝ }
 {
-    let marks = 3 + 6 * n + 5 * l + (n + 1) + l + (p + 1) + l;
-    let places = marked_extent(n, area, marks);
+    let places = marked_extent(at.sizes.nodes, area, room.listed);
     let Extent::Range(first, last) = places else {
         return true;
     };
-    !fed_back(b, n, l, p, area, first, last)
+    !fed_back(b, at, area, room, first, last)
 }

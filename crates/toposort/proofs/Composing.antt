@@ -1,158 +1,93 @@
--- The scratch laid out: what each step of the ordering finds, one section after the other, and what they come to.
--- Rests on lists.Sections and neighbours.
-use Prim.Native.Nat.{ℕ, suc, _+_, _≤_, _<_}
+-- The scratch laid out: what each step of the ordering finds, and what they come to.
+-- Rests on Running, Ordered, tables' Within and lists.Sections.
+use Prim.Native.Nat.{ℕ, _+_, _≤_, _<_}
 use native.Mathlib.Omega.{arith}
-use mathlib.Core.Path.{_≡_, refl, sym, ap, ap₂, _∙_}
-use mathlib.Core.Logic.{inl}
+use mathlib.Core.Path.{_≡_, refl, sym, ap, _∙_, subst}
+use mathlib.Core.Logic.{inl, inr}
 use mathlib.Core.List.{List, map}
-use lib.ListN.{length}
-use lib.Seq.{sets, length-sets}
+use lib.ListN.{length, getD}
+use lib.Seq.{sets}
 use Rattle.lists.specs.Lists.{upto}
-use Rattle.lists.proofs.Sections.{part, part-sets-in, part-sets-out}
-use Rattle.lists.proofs.Upto.{length-table, getD-table}
-use Rattle.paper.specs.Map.{L, P, firstPort, linkTo, sourcePort}
-use Rattle.paper.specs.Order.{queueAfter}
-use Rattle.order_theory.proofs.Refusals.{sound}
-use Rattle.stepmap.specs.Formed.{ReadWell}
-use Rattle.counting_sort.specs.Sorted.{below, startsBy, sortedBy}
-use Rattle.counting_sort.proofs.Counting.{below-all}
-use Rattle.counting_sort.proofs.Parts.{before-key}
-use Rattle.neighbours.specs.Tabled.{Roomy, byPort}
-use Rattle.neighbours.proofs.Writing.{source-below}
-use Rattle.toposort.specs.Standing.{Ordering, laid}
-use Rattle.toposort.specs.Laid.{firstsAt, keysAt, startsAt, sortedAt, countsAt, Ready, indexed, orderLaid}
+use Rattle.lists.proofs.Sections.{Apart, getD-sets-out}
+use Rattle.lists.proofs.Upto.{length-table}
+use Rattle.paper.specs.Map.{N, linkTo}
+use Rattle.paper.specs.Order.{queueAfter, order}
+use Rattle.tables.specs.declared.Layout.{Layout}
+use Rattle.tables.specs.Within.{Within}
+use Rattle.tables.specs.Placed.{scratchSize}
+use Rattle.tables.proofs.Within.{within-both, within-none, within-sets, within-wider}
+use Rattle.neighbours.specs.Linked.{Free, OutgoingLaid, outgoingSize}
+use Rattle.neighbours.specs.declared.Listing.{Listing}
+use Rattle.toposort.specs.Standing.{Indexed, Standing, openInputs, laid, withTargets}
+use Rattle.toposort.specs.Laid.{Ready, OrderLaid}
+use Rattle.toposort.proofs.Laying.{length-open}
+use Rattle.toposort.proofs.Running.{few, standing}
+use Rattle.toposort.proofs.Ordered.{index-under}
 
-module _ {b a : List ℕ} {n l p : ℕ} (ready : Ready b a n l p) where
-  pub firsts-fit : firstsAt n l + (n + 1) ≤ length a
-  firsts-fit = omega (arith, ready .room)
+module _ {b a : List ℕ} {at : Layout} (ready : Ready b a at) where
+  pub free : Free b a (at .sizes) (at .scratch) (outgoingSize (at .sizes))
+  free = record { read = ready .read; links = ready .links; room = omega (arith, ready .placed .after-scratch, ready .room) }
 
-  abbrev ks : List ℕ
-  ks = map (sourcePort b) (upto l)
-
-  pub long-starts : length (startsBy ks p) ≡ p + 1
-  unfolding startsBy
-  long-starts = length-table (below ks) (suc p) ∙ omega arith
-
-  pub long-sorted : length (sortedBy ks p) ≡ l
-  unfolding sortedBy
-  long-sorted =
-      before-key ks p
-      ∙ below-all ks p
-      (λ k h. let lt : k < l = omega (arith, length-table (sourcePort b) l) in
-      omega (arith, getD-table (sourcePort b) l k 0 lt, source-below (ready .read) (sound b (ready .links)) lt))
-      ∙ length-table (sourcePort b) l
-
-  module _ {a₁ : List ℕ} (e₁ : a₁ ≡ sets a (firstsAt n l) (map (firstPort b) (upto (n + 1)))) where
-    long₁ : length a₁ ≡ length a
-    long₁ = ap length e₁ ∙ length-sets a (firstsAt n l) (map (firstPort b) (upto (n + 1)))
-
-    table₁ : part a₁ (firstsAt n l) (n + 1) ≡ map (firstPort b) (upto (n + 1))
-    table₁ =
-        ap (λ (m : List ℕ). part m (firstsAt n l) (n + 1)) e₁
-        ∙ ap (part (sets a (firstsAt n l) (map (firstPort b) (upto (n + 1)))) (firstsAt n l)) (sym (length-table (firstPort b) (n + 1)))
-        ∙ part-sets-in a (firstsAt n l) (map (firstPort b) (upto (n + 1))) 0 (omega (arith, length-table (firstPort b) (n + 1), ready .room))
-
-    pub roomy : Roomy b a₁ n l p (firstsAt n l) (keysAt n l) (startsAt n l) (sortedAt n l p)
-    roomy =
+  module _ {links : Listing} {a₁ : List ℕ} (out : OutgoingLaid b a (at .sizes) (at .scratch) links a₁) where
+    pub indexed : Indexed b a₁ at links
+    indexed =
         record {
-          tabled =
-              record {
-                read = ready .read;
-                links = ready .links;
-                table = table₁;
-                apart = omega arith;
-                room = omega (arith, long₁, ready .room);
-              };
-          after-keys = omega arith;
-          after-starts = omega arith;
-          room = omega (arith, long₁, ready .room);
+          linked = out .linked;
+          before = omega (arith, out .first, ready .placed);
+          room = omega (arith, out .last, out .kept .long, ready .placed .after-scratch, ready .room);
         }
 
-    module _ {a₂ : List ℕ} (e₂ : a₂ ≡ byPort a₁ (keysAt n l) (startsAt n l) (sortedAt n l p) (map (sourcePort b) (upto l)) p) where
-      keyed : List ℕ
-      keyed = sets a₁ (keysAt n l) ks
+    -- until then only the scratch is written
+    scratched : Within (at .scratch) (scratchSize (at .sizes)) a (withTargets b a₁ at links)
+    unfolding withTargets
+    scratched =
+        within-sets (within-wider (out .kept) (at .scratch) (scratchSize (at .sizes)) (omega arith) (omega arith)) (links .keys)
+        (map (linkTo b) (upto (at .sizes .links))) (omega (arith, out .first, out .linked))
+        (omega (arith, out .last, out .linked, length-table (linkTo b) (at .sizes .links)))
 
-      started : List ℕ
-      started = sets keyed (startsAt n l) (startsBy ks p)
+    module _ {m : List ℕ} (e : m ≡ laid b (withTargets b a₁ at links) at links (queueAfter b (at .sizes .nodes))) where
+      joined-few : length (queueAfter b (at .sizes .nodes) .joined) ≤ at .sizes .nodes
+      joined-few = few indexed (at .sizes .nodes)
 
-      is₂ : a₂ ≡ sets started (sortedAt n l p) (sortedBy ks p)
-      unfolding byPort keyed started
-      is₂ = e₂
+      inside : Within 0 (at .end) a m
+      unfolding laid
+      inside =
+          subst (Within 0 (at .end) a) (sym e)
+          (within-sets
+          (within-sets (within-wider scratched 0 (at .end) (omega arith) (omega (arith, ready .placed .after-scratch)))
+          (at .order) (queueAfter b (at .sizes .nodes) .joined) (omega arith) (omega (arith, joined-few, ready .placed)))
+          (links .end) (openInputs b (at .sizes .nodes) (queueAfter b (at .sizes .nodes) .followed)) (omega arith)
+          (omega (arith, length-open b (at .sizes .nodes) (queueAfter b (at .sizes .nodes) .followed), out .last, ready .placed .after-scratch)))
 
-      long-keyed : length keyed ≡ length a
-      unfolding keyed
-      long-keyed = length-sets a₁ (keysAt n l) ks ∙ long₁
+      same : (i : ℕ) → Apart i (at .order) (at .sizes .nodes) → i < at .scratch → getD m i 0 ≡ getD a i 0
+      unfolding laid
+      same i apart low =
+          ap (λ (x : List ℕ). getD x i 0) e
+          ∙ getD-sets-out (sets (withTargets b a₁ at links) (at .order) (queueAfter b (at .sizes .nodes) .joined)) (links .end)
+          (openInputs b (at .sizes .nodes) (queueAfter b (at .sizes .nodes) .followed)) i 0 (inl (omega (arith, out .last)))
+          ∙ getD-sets-out (withTargets b a₁ at links) (at .order) (queueAfter b (at .sizes .nodes) .joined) i 0 (nearer apart)
+          ∙ scratched .same i (inl low)
+        where
+          nearer : Apart i (at .order) (at .sizes .nodes) → Apart i (at .order) (length (queueAfter b (at .sizes .nodes) .joined))
+          nearer (inl h) = inl h
+          nearer (inr h) = inr (omega (arith, joined-few))
 
-      long-started : length started ≡ length a
-      unfolding started
-      long-started = length-sets keyed (startsAt n l) (startsBy ks p) ∙ long-keyed
+      stands : Standing b m at links (N b) (length (order b))
+      unfolding order
+      stands =
+          standing (index-under indexed) (N b) refl
+          (e ∙ ap (λ (t : ℕ). laid b (withTargets b a₁ at links) at links (queueAfter b t)) (sym (ready .read .nodes)))
 
-      long₂ : length a₂ ≡ length a
-      long₂ = ap length is₂ ∙ length-sets started (sortedAt n l p) (sortedBy ks p) ∙ long-started
-
-      table₂ : part a₂ (firstsAt n l) (n + 1) ≡ map (firstPort b) (upto (n + 1))
-      unfolding keyed started
-      table₂ =
-          ap (λ (m : List ℕ). part m (firstsAt n l) (n + 1)) is₂
-          ∙ part-sets-out started (sortedAt n l p) (sortedBy ks p) (firstsAt n l) (n + 1) 0 (inl (omega arith)) (omega (arith, long-started, ready .room))
-          ∙ part-sets-out keyed (startsAt n l) (startsBy ks p) (firstsAt n l) (n + 1) 0 (inl (omega arith)) (omega (arith, long-keyed, ready .room))
-          ∙ part-sets-out a₁ (keysAt n l) ks (firstsAt n l) (n + 1) 0 (inl (omega arith)) (omega (arith, long₁, ready .room))
-          ∙ table₁
-
-      starts₂ : part a₂ (startsAt n l) (p + 1) ≡ startsBy ks p
-      unfolding started
-      starts₂ =
-          ap (λ (m : List ℕ). part m (startsAt n l) (p + 1)) is₂
-          ∙ part-sets-out started (sortedAt n l p) (sortedBy ks p) (startsAt n l) (p + 1) 0 (inl (omega arith)) (omega (arith, long-started, ready .room))
-          ∙ ap (part started (startsAt n l)) (sym long-starts)
-          ∙ part-sets-in keyed (startsAt n l) (startsBy ks p) 0 (omega (arith, long-starts, long-keyed, ready .room))
-
-      sorted₂ : part a₂ (sortedAt n l p) l ≡ sortedBy ks p
-      sorted₂ =
-          ap (λ (m : List ℕ). part m (sortedAt n l p) l) is₂
-          ∙ ap (part (sets started (sortedAt n l p) (sortedBy ks p)) (sortedAt n l p)) (sym long-sorted)
-          ∙ part-sets-in started (sortedAt n l p) (sortedBy ks p) 0 (omega (arith, long-sorted, long-started, ready .room))
-
-      well : ReadWell b n (L b) (P b)
-      well =
+      pub order-laid : OrderLaid b a at links m
+      unfolding order
+      order-laid =
           record {
-            nodes = ready .read .nodes;
-            links = refl;
-            ports = refl;
-            size = omega (arith, ready .read .size, ready .read .links);
-            few-nodes = ready .read .few-nodes;
-            few-links = omega (arith, ready .read .links, ready .read .few-links);
-            few-ports = omega (arith, ready .read .ports, ready .read .few-ports);
+            ready =
+                record { read = ready .read; placed = ready .placed; links = ready .links; room = omega (arith, inside .long, ready .room) };
+            index = stands .index;
+            first = out .first;
+            last = out .last;
+            ordered = stands .queue;
+            same = same;
+            inside = inside;
           }
-
-      pub ordering : Ordering b a₂ n l p 1 (firstsAt n l) (keysAt n l) (startsAt n l) (sortedAt n l p) (countsAt n l p)
-      ordering =
-          record {
-            index =
-                record {
-                  read = well;
-                  links = ready .links;
-                  after-order = omega arith;
-                  after-firsts = omega arith;
-                  after-starts = omega (arith, ready .read .ports);
-                  after-sorted = omega (arith, ready .read .links);
-                  room = omega (arith, long₂, ready .room);
-                  firsts-stand = table₂;
-                  starts-stand =
-                      ap (λ (x : ℕ). part a₂ (startsAt n l) (x + 1)) (ready .read .ports) ∙ starts₂
-                      ∙ ap₂ (λ (x y : ℕ). startsBy (map (sourcePort b) (upto x)) y) (sym (ready .read .links)) (sym (ready .read .ports));
-                  sorted-stand =
-                      ap (part a₂ (sortedAt n l p)) (ready .read .links) ∙ sorted₂
-                      ∙ ap₂ (λ (x y : ℕ). sortedBy (map (sourcePort b) (upto x)) y) (sym (ready .read .links)) (sym (ready .read .ports));
-                };
-            tabled =
-                record { read = ready .read; links = ready .links; table = table₂; apart = omega arith; room = omega (arith, long₂, ready .room) };
-            after = omega arith;
-          }
-
-      pub composed : {a₃ : List ℕ} → a₃ ≡ laid b (sets a₂ (keysAt n l) (map (linkTo b) (upto l))) n 1 (countsAt n l p) (queueAfter b n)
-          → a₃ ≡ orderLaid b a n l p
-      unfolding orderLaid indexed
-      composed e₃ =
-          e₃ ∙ ap (λ (m : List ℕ). laid b (sets m (keysAt n l) (map (linkTo b) (upto l))) n 1 (countsAt n l p) (queueAfter b n))
-          (e₂ ∙ ap (λ (m : List ℕ). byPort m (keysAt n l) (startsAt n l) (sortedAt n l p) (map (sourcePort b) (upto l)) p) e₁)

@@ -19,7 +19,10 @@ use Rattle.order_theory.proofs.Refusals.{sound}
 use Rattle.counting_sort.specs.Keyed.{Keyed, keysOf, tallied}
 use Rattle.counting_sort.proofs.Tallying.{length-tallied}
 use Rattle.neighbours.proofs.Writing.{target-known}
-use Rattle.toposort.specs.Standing.{Counting, openInputs}
+use Rattle.tables.specs.declared.Layout.{Layout}
+use Rattle.neighbours.specs.declared.Listing.{Listing}
+use Rattle.neighbours.specs.Tabled.{Tabled}
+use Rattle.toposort.specs.Standing.{Indexed, openInputs, withTargets}
 
 -- how often a node is a target
 tallied-open : {b : List ℕ} → Sound b → (n : ℕ) → tallied (map (linkTo b) (upto (L b))) n (L b) ≡ openInputs b n []
@@ -42,7 +45,13 @@ tallied-open {b} s n = table-same (λ w. times w (take (L b) targets)) (λ w. le
           in-count s w,
         )
 
-module _ {b a : List ℕ} {n l p firsts keys counts : ℕ} (start : Counting b a n l p firsts keys counts) where
+module _ {b a : List ℕ} {at : Layout} {links : Listing} (start : Indexed b a at links) where
+  abbrev n : ℕ
+  n = at .sizes .nodes
+
+  abbrev l : ℕ
+  l = at .sizes .links
+
   targets : List ℕ
   targets = map (linkTo b) (upto l)
 
@@ -50,56 +59,66 @@ module _ {b a : List ℕ} {n l p firsts keys counts : ℕ} (start : Counting b a
   unfolding targets
   many = length-table (linkTo b) l
 
-  pub filled-room : {a₁ : List ℕ} → a₁ ≡ sets a keys (map (linkTo b) (upto l)) → counts + n ≤ length a₁
-  filled-room e = omega (arith, ap length e ∙ length-sets a keys (map (linkTo b) (upto l)), start .room)
+  pub tabled : Tabled b a n l (at .sizes .ports) (links .firsts) (links .keys)
+  tabled =
+      record {
+        read = start .linked .read;
+        links = start .linked .links;
+        table = start .linked .firsts-stand;
+        apart = start .linked .after-firsts;
+        room = omega (arith, start .linked);
+      }
 
-  module _ {a₁ : List ℕ} (e₁ : a₁ ≡ sets a keys (map (linkTo b) (upto l))) {a₂ : List ℕ} (e₂ : a₂ ≡ sets a₁ counts (replicate n 0)) where
+  pub filled-room : {a₁ : List ℕ} → a₁ ≡ sets a (links .keys) (map (linkTo b) (upto l)) → links .end + n ≤ length a₁
+  filled-room e = omega (arith, ap length e ∙ length-sets a (links .keys) (map (linkTo b) (upto l)), start .room)
+
+  module _ {a₁ : List ℕ} (e₁ : a₁ ≡ sets a (links .keys) (map (linkTo b) (upto l))) {a₂ : List ℕ} (e₂ : a₂ ≡ sets a₁ (links .end) (replicate n 0)) where
     long₁ : length a₁ ≡ length a
-    long₁ = ap length e₁ ∙ length-sets a keys (map (linkTo b) (upto l))
+    long₁ = ap length e₁ ∙ length-sets a (links .keys) (map (linkTo b) (upto l))
 
-    key-is : (k : ℕ) → k < l → getD a₂ (keys + k) 0 ≡ linkTo b k
+    key-is : (k : ℕ) → k < l → getD a₂ (links .keys + k) 0 ≡ linkTo b k
     unfolding targets
     key-is k h =
-        ap (λ (m : List ℕ). getD m (keys + k) 0) e₂
-        ∙ getD-sets-out a₁ counts (replicate n 0) (keys + k) 0 (inl (omega (arith, start .after)))
-        ∙ ap (λ (m : List ℕ). getD m (keys + k) 0) e₁
-        ∙ getD-sets-in a keys targets k 0 (omega (arith, many)) (omega (arith, many, start .tabled .room))
+        ap (λ (m : List ℕ). getD m (links .keys + k) 0) e₂
+        ∙ getD-sets-out a₁ (links .end) (replicate n 0) (links .keys + k) 0 (inl (omega (arith, start .linked)))
+        ∙ ap (λ (m : List ℕ). getD m (links .keys + k) 0) e₁
+        ∙ getD-sets-in a (links .keys) targets k 0 (omega (arith, many)) (omega (arith, many, start .linked))
         ∙ getD-table (linkTo b) l k 0 h
 
-    keys-are : keysOf a₂ keys l ≡ targets
+    keys-are : keysOf a₂ (links .keys) l ≡ targets
     unfolding targets
     keys-are =
-        ap (λ (m : List ℕ). keysOf m keys l) e₂
-        ∙ part-sets-out a₁ counts (replicate n 0) keys l 0 (inl (start .after)) (omega (arith, long₁, start .tabled .room))
-        ∙ ap (λ (m : List ℕ). keysOf m keys l) e₁
-        ∙ ap (part (sets a keys targets) keys) (sym many)
-        ∙ part-sets-in a keys targets 0 (omega (arith, many, start .tabled .room))
+        ap (λ (m : List ℕ). keysOf m (links .keys) l) e₂
+        ∙ part-sets-out a₁ (links .end) (replicate n 0) (links .keys) l 0 (inl (omega (arith, start .linked))) (omega (arith, long₁, start .linked))
+        ∙ ap (λ (m : List ℕ). keysOf m (links .keys) l) e₁
+        ∙ ap (part (sets a (links .keys) targets) (links .keys)) (sym many)
+        ∙ part-sets-in a (links .keys) targets 0 (omega (arith, many, start .linked))
 
-    pub keyed : Keyed a₂ keys l counts n
+    pub keyed : Keyed a₂ (links .keys) l (links .end) n
     keyed =
         record {
-          apart = start .after;
-          fits = omega (arith, ap length e₂ ∙ length-sets a₁ counts (replicate n 0), long₁, start .room);
-          small = omega (arith, start .tabled .read .few-links);
-          known = λ k h. omega (arith, key-is k h, target-known (start .tabled .read) (sound b (start .tabled .links)) h);
+          apart = omega (arith, start .linked);
+          fits = omega (arith, ap length e₂ ∙ length-sets a₁ (links .end) (replicate n 0), long₁, start .room);
+          small = omega (arith, start .linked .read .few-links);
+          known = λ k h. omega (arith, key-is k h, target-known (start .linked .read) (sound b (start .linked .links)) h);
         }
 
-    pub zeros : part a₂ counts n ≡ replicate n 0
+    pub zeros : part a₂ (links .end) n ≡ replicate n 0
     zeros =
-        ap (λ (m : List ℕ). part m counts n) e₂ ∙ ap (part (sets a₁ counts (replicate n 0)) counts) (sym (length-replicate {A = ℕ} n 0))
-        ∙ part-sets-in a₁ counts (replicate n 0) 0 (omega (arith, length-replicate {A = ℕ} n 0, long₁, start .room))
+        ap (λ (m : List ℕ). part m (links .end) n) e₂ ∙ ap (part (sets a₁ (links .end) (replicate n 0)) (links .end)) (sym (length-replicate {A = ℕ} n 0))
+        ∙ part-sets-in a₁ (links .end) (replicate n 0) 0 (omega (arith, length-replicate {A = ℕ} n 0, long₁, start .room))
 
-    pub counted : {a₃ : List ℕ} → a₃ ≡ sets a₂ counts (tallied (keysOf a₂ keys l) n l)
-        → a₃ ≡ sets (sets a keys (map (linkTo b) (upto l))) counts (openInputs b n [])
-    unfolding targets
+    pub counted : {a₃ : List ℕ} → a₃ ≡ sets a₂ (links .end) (tallied (keysOf a₂ (links .keys) l) n l)
+        → a₃ ≡ sets (withTargets b a at links) (links .end) (openInputs b n [])
+    unfolding targets withTargets
     counted e₃ =
-        e₃ ∙ ap (λ (m : List ℕ). sets a₂ counts (tallied m n l)) keys-are
-        ∙ ap (λ (m : List ℕ). sets m counts (tallied targets n l)) e₂
-        ∙ sets-sets a₁ counts (replicate n 0) (tallied targets n l) (omega (arith, length-replicate {A = ℕ} n 0, length-tallied targets n l))
-        ∙ ap (sets a₁ counts) are-open
-        ∙ ap (λ (m : List ℕ). sets m counts (openInputs b n [])) e₁
+        e₃ ∙ ap (λ (m : List ℕ). sets a₂ (links .end) (tallied m n l)) keys-are
+        ∙ ap (λ (m : List ℕ). sets m (links .end) (tallied targets n l)) e₂
+        ∙ sets-sets a₁ (links .end) (replicate n 0) (tallied targets n l) (omega (arith, length-replicate {A = ℕ} n 0, length-tallied targets n l))
+        ∙ ap (sets a₁ (links .end)) are-open
+        ∙ ap (λ (m : List ℕ). sets m (links .end) (openInputs b n [])) e₁
       where
         are-open : tallied targets n l ≡ openInputs b n []
         are-open =
-            ap (λ (m : ℕ). tallied (map (linkTo b) (upto m)) n m) (sym (start .tabled .read .links))
-            ∙ tallied-open (sound b (start .tabled .links)) n
+            ap (λ (m : ℕ). tallied (map (linkTo b) (upto m)) n m) (sym (start .linked .read .links))
+            ∙ tallied-open (sound b (start .linked .links)) n

@@ -1,29 +1,25 @@
 -- How a refusal, or none, is passed up with its area; and that what ordering laid is gone once all the words are written.
--- Rests on Composing and lists.Sections.
-use Prim.Native.Nat.{ℕ, _+_, _*_, _≤_}
+-- Rests on tables' Within and lists.Sections.
+use Prim.Native.Nat.{ℕ, _+_, _≤_}
 use native.Mathlib.Omega.{arith}
 use mathlib.Core.Path.{_≡_, refl, sym, ap, _∙_}
-use mathlib.Core.List.{List, [], _∷_, _++_, map}
+use mathlib.Core.List.{List, [], _∷_, _++_}
 use lib.ListN.{length, replicate, length-replicate}
-use lib.Seq.{sets, length-sets}
-use Rattle.lists.specs.Lists.{upto}
-use Rattle.lists.proofs.Sections.{sets-under}
-use Rattle.lists.proofs.Upto.{length-table}
-use Rattle.paper.specs.Map.{firstPort, linkTo, sourcePort}
-use Rattle.paper.specs.Order.{queueAfter}
+use lib.Seq.{sets}
+use Rattle.lists.proofs.Sections.{sets-sets}
+use Rattle.paper.specs.Area.{cleared}
 use Rattle.paper.specs.Refusals.{Ruling, passed, refusal, Answer, answer, onRefusal, refused, answered, decide, rule6}
-use Rattle.order_theory.proofs.Queue.{room}
-use Rattle.order_theory.proofs.Queued.{queued}
-use Rattle.order_theory.proofs.Refusals.{sound}
-use Rattle.counting_sort.specs.Sorted.{startsBy, sortedBy}
-use Rattle.neighbours.specs.Tabled.{byPort}
+use Rattle.refusals.specs.Said.{ruling}
+use Rattle.refusals.specs.declared.Refusal.the-variants as Reason
+use Rattle.tables.specs.declared.Layout.{Layout}
+use Rattle.tables.specs.Within.{Within}
+use Rattle.tables.proofs.Within.{within-filled}
+use Rattle.neighbours.specs.declared.Listing.{Listing}
 use Rattle.toposort.specs.declared.queue.Order.{Order}
 use Rattle.toposort.specs.declared.queue.Order.the-variants.{All, Cycle}
+use Rattle.toposort.specs.declared.ordering.Ordered.the-variants.{Done, Refused}
 use Rattle.toposort.specs.Queue.{orderSaid}
-use Rattle.toposort.specs.Standing.{openInputs, laid}
-use Rattle.toposort.specs.Laid.{firstsAt, keysAt, startsAt, sortedAt, countsAt, Ready, indexed, orderLaid, zeroed}
-use Rattle.toposort.proofs.Laying.{length-open}
-use Rattle.toposort.proofs.Composing.{long-starts, long-sorted}
+use Rattle.toposort.specs.Laid.{OrderLaid, Left}
 
 -- ---- a ruling passed up
 
@@ -73,89 +69,26 @@ before (refusal m w ∷ us) vs e = e
 
 -- ---- what ordering laid is gone once all the words are written
 
-module _ {b a : List ℕ} {n l p : ℕ} (ready : Ready b a n l p) where
-  module _ (ws : List ℕ) (many : length ws ≡ 7 + 10 * n + 9 * l + 2 * p) where
-    -- one section under the words
-    under : (m : List ℕ) (at : ℕ) (vs : List ℕ) → length m ≡ length a → at + length vs ≤ 7 + 10 * n + 9 * l + 2 * p
-        → sets (sets m at vs) 0 ws ≡ sets m 0 ws
-    under m at vs long h = sets-under m at vs 0 ws 0 (omega arith) (omega (arith, many)) (omega (arith, many, long, ready .room))
+pub written-over : {n : ℕ} {a m : List ℕ} → Within 0 n a m → n ≤ length a → (ws : List ℕ) → length ws ≡ n → sets m 0 ws ≡ sets a 0 ws
+written-over {n} {a} {m} inside fits ws many =
+    sym (sets-sets m 0 (replicate n 0) ws (omega (arith, length-replicate {A = ℕ} n 0, many)))
+    ∙ ap (λ (x : List ℕ). sets x 0 ws) (within-filled inside (omega arith) 0)
+    ∙ sets-sets a 0 (replicate n 0) ws (omega (arith, length-replicate {A = ℕ} n 0, many))
 
-    pub written-over : sets (orderLaid b a n l p) 0 ws ≡ sets a 0 ws
-    unfolding orderLaid indexed byPort laid
-    written-over =
-        under a₆ (countsAt n l p) (openInputs b n (queueAfter b n .followed)) (keep a₅ 1 joined long₅) (omega (arith, length-open b n (queueAfter b n .followed)))
-        ∙ under a₅ 1 joined long₅ (omega (arith, room (sound b (ready .links)) (queued (sound b (ready .links)) n), ready .read .nodes))
-        ∙ under a₄ (keysAt n l) targets long₄ (omega (arith, length-table (linkTo b) l))
-        ∙ under a₃ (sortedAt n l p) (sortedBy ks p) long₃ (omega (arith, long-sorted ready))
-        ∙ under a₂ (startsAt n l) (startsBy ks p) long₂ (omega (arith, long-starts ready))
-        ∙ under a₁ (keysAt n l) ks long₁ (omega (arith, length-table (sourcePort b) l))
-        ∙ under a (firstsAt n l) table refl (omega (arith, length-table (firstPort b) (n + 1)))
-      where
-        keep : (x : List ℕ) (at : ℕ) (vs : List ℕ) → length x ≡ length a → length (sets x at vs) ≡ length a
-        keep x at vs long = length-sets x at vs ∙ long
+-- ---- the two answers of the ordering, passed up
 
-        table : List ℕ
-        table = map (firstPort b) (upto (n + 1))
+module _ {b a : List ℕ} {at : Layout} {links : Listing} {m : List ℕ} (laid : OrderLaid b a at links m) {r : Order} (said : orderSaid r ≡ rule6 b) where
+  pub all-ordered : r ≡ All → Left b a (cleared b a) (rule6 b) (Done at links) m
+  unfolding ruling
+  all-ordered e = record { said = ap orderSaid (sym e) ∙ said; lies = laid }
 
-        ks : List ℕ
-        ks = map (sourcePort b) (upto l)
-
-        targets : List ℕ
-        targets = map (linkTo b) (upto l)
-
-        joined : List ℕ
-        joined = queueAfter b n .joined
-
-        a₁ : List ℕ
-        a₁ = sets a (firstsAt n l) table
-
-        long₁ : length a₁ ≡ length a
-        long₁ = length-sets a (firstsAt n l) table
-
-        a₂ : List ℕ
-        a₂ = sets a₁ (keysAt n l) ks
-
-        long₂ : length a₂ ≡ length a
-        long₂ = keep a₁ (keysAt n l) ks long₁
-
-        a₃ : List ℕ
-        a₃ = sets a₂ (startsAt n l) (startsBy ks p)
-
-        long₃ : length a₃ ≡ length a
-        long₃ = keep a₂ (startsAt n l) (startsBy ks p) long₂
-
-        a₄ : List ℕ
-        a₄ = sets a₃ (sortedAt n l p) (sortedBy ks p)
-
-        long₄ : length a₄ ≡ length a
-        long₄ = keep a₃ (sortedAt n l p) (sortedBy ks p) long₃
-
-        a₅ : List ℕ
-        a₅ = sets a₄ (keysAt n l) targets
-
-        long₅ : length a₅ ≡ length a
-        long₅ = keep a₄ (keysAt n l) targets long₄
-
-        a₆ : List ℕ
-        a₆ = sets a₅ 1 joined
-
-  pub cleared-again : {m r : List ℕ} → m ≡ orderLaid b a n l p → r ≡ sets m 0 (replicate (7 + 10 * n + 9 * l + 2 * p) 0) → r ≡ zeroed a n l p
-  unfolding zeroed
-  cleared-again e f =
-      let zeros : List ℕ = replicate (7 + 10 * n + 9 * l + 2 * p) 0 in
-      f ∙ ap (λ (x : List ℕ). sets x 0 zeros) e ∙ written-over zeros (length-replicate (7 + 10 * n + 9 * l + 2 * p) 0)
-
-  -- ---- the two answers of the ordering, passed up
-
-  pub all-ordered : {r : Order} → r ≡ All → orderSaid r ≡ rule6 b → {m : List ℕ} → m ≡ orderLaid b a n l p
-      → (_≡_ {A = Answer (ℕ × ℕ × ℕ)} (answered (n, l, p)) (answer (rule6 b) (n, l, p)))
-      × (m ≡ onRefusal (rule6 b) (zeroed a n l p) (orderLaid b a n l p))
-  all-ordered e f g = let h : passed ≡ rule6 b = ap orderSaid (sym e) ∙ f in (passed-said h (n, l, p), passed-kept h (zeroed a n l p) g)
-
-  pub cycle-found : {r : Order} (v : ℕ) → r ≡ Cycle v → orderSaid r ≡ rule6 b → {m₀ m : List ℕ} → m₀ ≡ orderLaid b a n l p
-      → m ≡ sets m₀ 0 (replicate (7 + 10 * n + 9 * l + 2 * p) 0)
-      → (_≡_ {A = Answer (ℕ × ℕ × ℕ)} (refused 6 v) (answer (rule6 b) (n, l, p)))
-      × (m ≡ onRefusal (rule6 b) (zeroed a n l p) (orderLaid b a n l p))
-  cycle-found v e f g k =
-      let h : refusal 6 v ≡ rule6 b = ap orderSaid (sym e) ∙ f in
-      (refused-said h (n, l, p), refused-kept h (orderLaid b a n l p) (cleared-again g k))
+  pub cycle-found : (v : ℕ) → r ≡ Cycle v → {z : List ℕ} → z ≡ sets m 0 (replicate (at .end) 0)
+      → Left b a (cleared b a) (rule6 b) (Refused (Reason.Cycle v)) z
+  unfolding ruling cleared
+  cycle-found v e f =
+      record {
+        said = ap orderSaid (sym e) ∙ said;
+        lies =
+            f ∙ within-filled (laid .inside) (omega (arith, laid .inside .long, laid .ready .room)) 0
+            ∙ ap (λ (k : ℕ). sets a 0 (replicate k 0)) (sym (laid .ready .placed .whole));
+      }

@@ -1,73 +1,58 @@
--- The scratch as ordering lays it out, and what it leaves in the area.
--- Rests on paper's Area, neighbours' byPort and Standing.
-use Prim.Native.Nat.{ℕ, _+_, _*_, _≤_}
+-- What ordering leaves in the area: the order and the links by output port; or, after a refusal, what 01 says.
+-- Rests on paper's Calls, tables' Placed and Standing.
+use Prim.Native.Nat.{ℕ, _+_, _≤_, _<_}
 use mathlib.Core.Path.{_≡_}
-use mathlib.Core.List.{List, [], _∷_, _++_, map}
-use lib.ListN.{length, replicate}
-use lib.Seq.{sets}
-use Rattle.lists.specs.Lists.{upto}
-use Rattle.paper.specs.Map.{N, L, P, firstPort, linkTo, sourcePort}
-use Rattle.paper.specs.Order.{queueAfter}
-use Rattle.paper.specs.Refusals.{passed, rule3, rule45, rule6, decide, Answer, answer, answered, onRefusal}
-use Rattle.refusals.specs.Said.{refusedBy}
-use Rattle.paper.specs.Calls.{untouched, unprepared}
+use mathlib.Core.List.{List, _++_}
+use lib.ListN.{length, getD}
+use Rattle.lists.proofs.Sections.{Apart, part}
 use Rattle.paper.specs.Area.{cleared}
+use Rattle.paper.specs.Calls.{untouched, unprepared}
+use Rattle.paper.specs.Order.{order}
+use Rattle.paper.specs.Refusals.{Ruling, passed, rule45, decide, Answer, answered, onRefusal}
+use Rattle.refusals.specs.Said.{refusedBy, ruling}
 use Rattle.stepmap.specs.Formed.{ReadWell}
-use Rattle.neighbours.specs.Tabled.{byPort}
-use Rattle.toposort.specs.Standing.{laid}
+use Rattle.tables.specs.declared.Layout.{Layout}
+use Rattle.tables.specs.Placed.{Placed}
+use Rattle.tables.specs.Within.{Within}
+use Rattle.neighbours.specs.Linked.{outgoingSize}
+use Rattle.neighbours.specs.declared.Listing.{Listing}
+use Rattle.toposort.specs.Standing.{Indexed}
 use Rattle.toposort.specs.declared.ordering.Ordered.{Ordered}
 use Rattle.toposort.specs.declared.ordering.Ordered.the-variants.{Done, Refused}
 
--- where the scratch of a map of n nodes and l links starts, and in it the first ports, the keys, the starts of the ports' links, the
--- links by port, and the counters
-abbrev pub firstsAt : ℕ → ℕ → ℕ
-firstsAt n l = 3 + 6 * n + 5 * l
-
-abbrev pub keysAt : ℕ → ℕ → ℕ
-keysAt n l = firstsAt n l + (n + 1)
-
-abbrev pub startsAt : ℕ → ℕ → ℕ
-startsAt n l = keysAt n l + l
-
-abbrev pub sortedAt : ℕ → ℕ → ℕ → ℕ
-sortedAt n l p = startsAt n l + (p + 1)
-
-abbrev pub countsAt : ℕ → ℕ → ℕ → ℕ
-countsAt n l p = sortedAt n l p + l
-
--- a map that passes 1, 2, 4 and 5, and an area that passes 3
-pub record Ready (b a : List ℕ) (n l p : ℕ) : Type 0 where
-  pub read : ReadWell b n l p
+-- a map that passes 1, 2, 4 and 5, an area that passes 3, and where its sections stand
+pub record Ready (b a : List ℕ) (at : Layout) : Type 0 where
+  pub read : ReadWell b (at .sizes .nodes) (at .sizes .links) (at .sizes .ports)
+  pub placed : Placed b at
   pub links : rule45 b ≡ passed
-  pub room : 7 + 10 * n + 9 * l + 2 * p ≤ length a
+  pub room : at .end ≤ length a
 
--- the first ports and the links by output port
-unfoldable pub indexed : List ℕ → List ℕ → ℕ → ℕ → ℕ → List ℕ
-indexed b a n l p =
-    byPort (sets a (firstsAt n l) (map (firstPort b) (upto (n + 1)))) (keysAt n l) (startsAt n l) (sortedAt n l p)
-    (map (sourcePort b) (upto l)) p
-
--- and over them the order, with the targets of the links and the counters
-unfoldable pub orderLaid : List ℕ → List ℕ → ℕ → ℕ → ℕ → List ℕ
-orderLaid b a n l p =
-    laid b (sets (indexed b a n l p) (keysAt n l) (map (linkTo b) (upto l))) n 1 (countsAt n l p) (queueAfter b n)
-
--- the words that a map of these sizes asks for, set to 0
-unfoldable pub zeroed : List ℕ → ℕ → ℕ → ℕ → List ℕ
-zeroed a n l p = sets a 0 (replicate (7 + 10 * n + 9 * l + 2 * p) 0)
+-- the order and, in the scratch, the links by output port stand; but for the order no word before the scratch was written
+pub record OrderLaid (b a : List ℕ) (at : Layout) (links : Listing) (m : List ℕ) : Type 0 where
+  pub ready : Ready b m at
+  pub index : Indexed b m at links
+  pub first : links .firsts ≡ at .scratch
+  pub last : links .end ≡ at .scratch + outgoingSize (at .sizes)
+  pub ordered : part m (at .order) (length (order b)) ≡ order b
+  pub same : (i : ℕ) → Apart i (at .order) (at .sizes .nodes) → i < at .scratch → getD m i 0 ≡ getD a i 0
+  pub inside : Within 0 (at .end) a m
 
 -- 01's number and values for each case
-abbrev pub orderedSaid : Ordered → Answer (ℕ × ℕ × ℕ)
-orderedSaid (Done n l p) = answered (n, l, p)
+abbrev pub orderedSaid : Ordered → Answer (Layout × Listing)
+orderedSaid (Done at links) = answered (at, links)
 orderedSaid (Refused x) = refusedBy x
 
--- what is left of a map that passes 1 and 2: the answer, and the area's words
-pub record SizedLeft (b a : List ℕ) (n l p : ℕ) (r : Ordered) (m : List ℕ) : Type 0 where
-  pub said : orderedSaid r ≡ answer (decide (rule3 b a ∷ rule45 b ∷ rule6 b ∷ [])) (n, l, p)
-  pub left : m ≡ onRefusal (rule3 b a) a (onRefusal (decide (rule45 b ∷ rule6 b ∷ [])) (zeroed a n l p) (orderLaid b (zeroed a n l p) n l p))
+-- the area after an ordering over z: laid out, or as a refusal leaves it
+abbrev pub Lies : List ℕ → List ℕ → List ℕ → Ordered → List ℕ → Type 0
+Lies b z kept (Done at links) m = OrderLaid b z at links m
+Lies b z kept (Refused x) m = m ≡ kept
 
--- .. and of any map: "After 1, 2, 3 nothing has changed. After 4, 5, 6 .. the first W words are 0."
-pub record OrderLeft (b a : List ℕ) (r : Ordered) (m : List ℕ) : Type 0 where
-  pub said : orderedSaid r ≡ answer (decide (untouched b a ++ unprepared b)) (N b, L b, P b)
-  pub left :
-      m ≡ onRefusal (decide (untouched b a)) a (onRefusal (decide (unprepared b)) (cleared b a) (orderLaid b (cleared b a) (N b) (L b) (P b)))
+-- what the rules say, and how the area lies
+pub record Left (b z kept : List ℕ) (rule : Ruling) (r : Ordered) (m : List ℕ) : Type 0 where
+  pub said : ruling (orderedSaid r) ≡ rule
+  pub lies : Lies b z kept r m
+
+-- of any map: "After 1, 2, 3 nothing has changed. After 4, 5, 6 .. the first W words are 0."
+abbrev pub OrderLeft : List ℕ → List ℕ → Ordered → List ℕ → Type 0
+OrderLeft b a r m =
+    Left b (cleared b a) (onRefusal (decide (untouched b a)) a (cleared b a)) (decide (untouched b a ++ unprepared b)) r m

@@ -5,62 +5,48 @@ pub mod queue;
 pub mod turns;
 
 ghost use mathlib.Core.Path.{_≡_};
-ghost use mathlib.Core.List.{[], map};
+ghost use mathlib.Core.List.{[]};
 ghost use lib.Seq.{sets};
-ghost use Rattle.lists.specs.Lists.{upto};
-ghost use Rattle.paper.specs.Map.{linkTo};
 ghost use Rattle.paper.specs.Order.{queueAfter};
 ghost use Rattle.paper.specs.Refusals.{rule6};
 ghost use Rattle.toposort.specs.Queue.{orderSaid};
-ghost use Rattle.toposort.specs.Standing.{Counting, Ordering, laid, openInputs};
+ghost use Rattle.toposort.specs.Standing.{Indexed, laid, openInputs, withTargets};
 use counting_sort::tally;
+use neighbours::Listing;
 use neighbours::keys::target_nodes;
 use queue::Order;
 use queue::free_nodes;
 use queue::lowest_left;
+use tables::Layout;
 use turns::all_turns;
 use words::section::fill;
 
-// Counts the links to each node.
-fn count_inputs(
-    b: &[u8],
-    n: usize,
-    l: usize,
-    p: usize,
-    area: &mut [u16],
-    firsts: usize,
-    keys: usize,
-    counts: usize,
-)
-    requires { ⌜ Counting (now b) (now area) n l p firsts keys counts ⌝ }
+// Counts the links to each node, behind the links by port; their targets take the place of the keys.
+fn count_inputs(b: &[u8], at: Layout, area: &mut [u16], links: Listing)
+    requires { ⌜ Indexed (now b) (now area) at links ⌝ }
     ensures { λ _. ⌜ now (area .exit)
-        ≡ sets (sets (now (area .entry)) keys (map (linkTo (now (b .entry))) (upto l))) counts (openInputs (now (b .entry)) n []) ⌝ }
+        ≡ sets (withTargets (now (b .entry)) (now (area .entry)) at links) (links .end) (openInputs (now (b .entry)) (at .sizes .nodes) []) ⌝ }
 {
-    target_nodes(b, n, l, p, area, firsts, keys);
+    let n = at.sizes.nodes;
+    let l = at.sizes.links;
+    let p = at.sizes.ports;
+    let keys = links.keys;
+    let counts = links.end;
+    target_nodes(b, n, l, p, area, links.firsts, keys);
     fill(area, counts, n, 0);
     tally(area, keys, l, counts, n);
 }
 
-// Orders the nodes into the section at `order` (the Rust's `toposort`); on a cycle, names the lowest node never ordered.
-pub fn toposort(
-    b: &[u8],
-    n: usize,
-    l: usize,
-    p: usize,
-    area: &mut [u16],
-    order: usize,
-    firsts: usize,
-    keys: usize,
-    starts: usize,
-    sorted: usize,
-    counts: usize,
-) -> Order
-    requires { ⌜ Ordering (now b) (now area) n l p order firsts keys starts sorted counts ⌝ }
+// Orders the nodes into the order section (the Rust's `toposort`); on a cycle, names the lowest node never ordered.
+pub fn toposort(b: &[u8], at: Layout, area: &mut [u16], links: Listing) -> Order
+    requires { ⌜ Indexed (now b) (now area) at links ⌝ }
     ensures { λ r. ⌜ (orderSaid r ≡ rule6 (now (b .entry)))
-        × (now (area .exit) ≡ laid (now (b .entry)) (sets (now (area .entry)) keys (map (linkTo (now (b .entry))) (upto l))) n order counts (queueAfter (now (b .entry)) n)) ⌝ }
+        × (now (area .exit) ≡ laid (now (b .entry)) (withTargets (now (b .entry)) (now (area .entry)) at links) at links (queueAfter (now (b .entry)) (at .sizes .nodes))) ⌝ }
 {
-    count_inputs(b, n, l, p, area, firsts, keys, counts);
-    let joined = free_nodes(area, order, counts, n);
-    all_turns(b, n, area, order, firsts, starts, sorted, counts, joined);
+    let n = at.sizes.nodes;
+    let counts = links.end;
+    count_inputs(b, at, area, links);
+    let joined = free_nodes(area, at.order, counts, n);
+    all_turns(b, at, area, links, joined);
     lowest_left(area, counts, n)
 }

@@ -1,11 +1,9 @@
 -- A check and then its ports: a refusal of the check comes before 14, and a conflict before what the check replied.
 -- Rests on refusals' Rulings, line_checker's RecordCalls and tables' Within.
-use Prim.Native.Nat.{ℕ, _+_, _*_, _≤_}
-use native.Mathlib.Omega.{arith}
+use Prim.Native.Nat.{ℕ}
 use mathlib.Core.Path.{_≡_, refl, sym, ap, _∙_}
 use mathlib.Core.Bool.{Bool, true, false, cond}
 use mathlib.Core.List.{List, [], _∷_, _++_}
-use lib.ListN.{length}
 use types.Run.{OneOf, miss}
 use denote.Enum.Declared.{tagOf}
 use Rattle.paper.specs.Calls.{portRules}
@@ -13,20 +11,17 @@ use Rattle.paper.specs.Ports.{conflict}
 use Rattle.paper.specs.Refusals.{Ruling, passed, refusal, Answer, answer, answered, refused, decide}
 use Rattle.refusals.specs.Said.{ruling}
 use Rattle.refusals.proofs.Rulings.{ruling-answer, no-refusal, first-decides}
-use Rattle.port_conflict.specs.Marks.{PortsChecked}
 use Rattle.answers.specs.Said.{lineSaid, topoSaid}
 use Rattle.answers.specs.declared.LineAnswer.{LineAnswer}
 use Rattle.answers.specs.declared.LineAnswer.the-variants as Line
 use Rattle.line_checker.proofs.RecordCalls.{said-after}
 use Rattle.tables.specs.declared.Layout.{Layout}
 use Rattle.tables.specs.Answered.{Answered}
-use Rattle.tables.specs.Usable.{Usable, Scratched}
-use Rattle.tables.specs.Placed.{scratchSize}
 use Rattle.answers.proofs.LineAnswer.{the-type as line-type}
 use Rattle.answers.specs.declared.TopoAnswer.{TopoAnswer}
 use Rattle.answers.specs.declared.TopoAnswer.the-variants as Topo
 use Rattle.answers.proofs.TopoAnswer.{the-type as topo-type}
-use Rattle.tables.proofs.Within.{within-both, within-wider}
+use Rattle.tables.proofs.Within.{within-both}
 use Rattle.with_ports.specs.AfterPorts.{afterPorts}
 
 -- ---- an answer that is no refusal
@@ -44,10 +39,6 @@ order-passed Topo.No h = refl
 order-passed (Topo.Refused x) h = absurd (miss (0 ∷ 1 ∷ []) 2 tt h)
 
 -- ---- the check, then the ports
-
--- the ports' words fit into the scratch of the area that the check leaves
-pub ports-fit : {b a m : List ℕ} {at : Layout} → Usable b a at → Scratched at a m → at .scratch + (at .sizes .nodes + 1) + 2 * at .sizes .ports ≤ length m
-ports-fit usable kept = omega (arith, usable .placed .after-scratch, usable .room, kept .long)
 
 module _ {A : Type 0} {at : Layout} {a m : List ℕ} {said : Answer A} {rules : List Ruling} {x : A} (checked : Answered at a m said rules x) where
   -- the check's answer tells what its rules decided
@@ -75,7 +66,7 @@ module _ {A : Type 0} {at : Layout} {a m : List ℕ} {said : Answer A} {rules : 
 
   -- "no (count 0) if any listed input is the other end of the FIRST link of a listed output; else the check chosen"
   pub then-ports : ruling said ≡ passed → {b o inputs outputs : List ℕ} {found : Answer Bool}
-      → PortsChecked b m o (at .sizes .nodes) (at .sizes .ports) (at .scratch) inputs outputs found → (denied : A) {y : Answer A} → y ≡ afterPorts found denied said
+      → Answered at m o found (portRules b inputs outputs) (conflict b inputs outputs) → (denied : A) {y : Answer A} → y ≡ afterPorts found denied said
       → Answered at a o y (rules ++ portRules b inputs outputs) (cond (conflict b inputs outputs) denied x)
   unfolding answer
   then-ports passes {b} {o} {inputs} {outputs} {found} looked denied e =
@@ -85,7 +76,7 @@ module _ {A : Type 0} {at : Layout} {a m : List ℕ} {said : Answer A} {rules : 
             (e ∙ ap (λ (f : Answer Bool). afterPorts f denied said) (looked .says)
             ∙ ap (afterPorts (answer (decide ports) (conflict b inputs outputs)) denied) replied
             ∙ ports-said (decide ports) (conflict b inputs outputs) denied);
-        kept = within-both (checked .kept) (within-wider (looked .kept) (at .scratch) (scratchSize (at .sizes)) (omega arith) (omega arith));
+        kept = within-both (checked .kept) (looked .kept);
       }
     where
       ports : List Ruling

@@ -50,16 +50,7 @@ pub fn check_list_with_ports(
 {
     let checked = check_list(b, at, area, list);
     let LineAnswer::Refused(_) = checked else {
-        let found = check_ports(
-            b,
-            at.sizes.nodes,
-            at.sizes.links,
-            at.sizes.ports,
-            area,
-            at.scratch,
-            inputs,
-            outputs,
-        );
+        let found = check_ports(b, at, area, inputs, outputs);
         return line_after_ports(found, checked);
     };
     checked
@@ -91,25 +82,9 @@ pub fn check_order_with_ports(
         (cond (conflict (now (b .entry)) (now (inputs .entry)) (now (outputs .entry))) Reply.No
         (orderCheck (now (b .entry)) (now (area .entry)) (now (list .entry)))) ⌝ }
 {
-    let checked = check_order(
-        b,
-        at.sizes.nodes,
-        at.sizes.links,
-        at.sizes.ports,
-        area,
-        list,
-    );
+    let checked = check_order(b, at, area, list);
     let TopoAnswer::Refused(_) = checked else {
-        let found = check_ports(
-            b,
-            at.sizes.nodes,
-            at.sizes.links,
-            at.sizes.ports,
-            area,
-            at.scratch,
-            inputs,
-            outputs,
-        );
+        let found = check_ports(b, at, area, inputs, outputs);
         return order_after_ports(found, checked);
     };
     checked

@@ -3,10 +3,10 @@
 use native.Mathlib.Omega.{arith}
 use mathlib.Core.Path.{sym, _∙_}
 use Rattle.tables.proofs.Within.{within-none}
-use Rattle.tables.proofs.UsableBy.{still-usable}
-use Rattle.intervals.proofs.Into.{into-answered}
+use Rattle.tables.proofs.Usable.{still-usable}
 use Rattle.line_checker.proofs.IntervalsFound.{empty-into, refused-into}
-use Rattle.intervals.proofs.Taken.{taken-kept, not-taken, all-taken, listed}
+use Rattle.intervals.proofs.Taken.{not-taken, all-taken}
+use Rattle.line_checker.proofs.ByPlaces.{taken-kept, listed, taken-by, into-answered}
 use Rattle.words.proofs.Turns.{length-wordsFrom}
 use Rattle.byte_lists.proofs.IntoBytes.{bytes-kept}
 use Rattle.byte_lists.proofs.IntervalsBytes.{nodes-to-bytes}
@@ -30,7 +30,7 @@ returns-2 c =
     let asked = taking .before .before in
     let start = asked .before .before .before .before .before in
     bytes-kept (λ i. omega (arith, asked .before .slice-known2 .given i))
-    (into-answered (taken-kept (start .args .n) (start .args .l) (start .args .p) (taking .take-in-bytes .ensures .kept))
+    (into-answered (taken-kept (start .pre) (taking .take-in-bytes .ensures .kept))
     (refused-into (start .args .b .now) (start .args .area .now) (wordsFrom (start .args .list .now)) (wordsFrom (start .args .buffer .now))
     (λ e. asked .if1 .left (sym (length-wordsFrom _) ∙ e)) (start .pre .read .nodes) (taking .take-in-bytes .ensures) (c .list-refusal .result) (c .list-refusal .ensures)
     (not-taken (c .before .enum-told .given .1))))
@@ -40,8 +40,8 @@ write-intervals-bytes-requires c κs =
     let told = c .before .before in
     let taking = told .before .before .before .before .before in
     let start = taking .before .before .before .before .before .before .before in
-    let kept = taken-kept (start .args .n) (start .args .l) (start .args .p) (taking .take-in-bytes .ensures .kept) in
-    (still-usable (start .pre) kept, listed (start .pre) (all-taken (taking .take-in-bytes .ensures) (told .before .taken .given .1)) kept)
+    let kept = taken-kept (start .pre) (taking .take-in-bytes .ensures .kept) in
+    (still-usable (start .pre) kept, listed (start .pre) (all-taken (taken-by (start .pre) (taking .take-in-bytes .ensures)) (told .before .taken .given .1)) kept)
 
 returns-3 : tie.Need-returns-3
 returns-3 c =
@@ -49,11 +49,11 @@ returns-3 c =
     let told = written .before .before .before in
     let taking = told .before .before .before .before .before in
     let start = taking .before .before .before .before .before .before .before in
-    let kept = taken-kept (start .args .n) (start .args .l) (start .args .p) (taking .take-in-bytes .ensures .kept) in
-    nodes-to-bytes (start .pre) (all-taken (taking .take-in-bytes .ensures) (told .before .taken .given .1)) kept (written .write-intervals-bytes .ensures)
+    let kept = taken-kept (start .pre) (taking .take-in-bytes .ensures .kept) in
+    nodes-to-bytes (start .pre) (all-taken (taken-by (start .pre) (taking .take-in-bytes .ensures)) (told .before .taken .given .1)) kept (written .write-intervals-bytes .ensures)
 
 pub intervals-of-list-bytes-spec : {M : Type 1} → statement M
 intervals-of-list-bytes-spec =
     tie.close
-    (tie.spec returns (search needs) (search needs) (search needs) (search needs) (λ c κs. search needs) (search needs) (search needs)
+    (tie.spec returns (λ c κs. search needs) (search needs) (search needs)
     list-refusal-requires (search needs) returns-2 write-intervals-bytes-requires (search needs) (search needs) returns-3)

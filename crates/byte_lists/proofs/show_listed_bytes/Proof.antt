@@ -7,6 +7,8 @@ use lib.ListN.{drop}
 use Rattle.lists.proofs.Sections.{part}
 use Rattle.paper.specs.Path.{backPath}
 use Rattle.intervals.specs.Answer.{listIn}
+use Rattle.tables.proofs.Bridge.{by-numbers}
+use Rattle.line_checker.proofs.ByPlaces.{into-at}
 use Rattle.byte_lists.proofs.Room.{words-inside, words-fit}
 use Rattle.byte_lists.proofs.PathBytes.{PathIn, in-room, not-to-bytes, made-so, path-to-bytes}
 use borrow.Author.Needs.{needs}
@@ -39,8 +41,8 @@ rest w = drop (w .before .before .before .before .few-steps .result - 0) (w .bef
 
 asked : (w : Shown)
     → let s = w .before .before .before .before .before .before .before .before in
-    PathIn (s .args .n) (s .args .l) (s .args .p) (s .args .area .now) (w .show-listed .last .1 .1 .1 .1 .0) (w .show-listed .result)
-    (backPath (s .args .b .now) (listIn (s .args .area .now) (s .args .n) (s .args .l) (s .args .count)))
+    PathIn (s .args .at) (s .args .area .now) (w .show-listed .last .1 .1 .1 .1 .0) (w .show-listed .result)
+    (backPath (s .args .b .now) (listIn (s .args .area .now) (s .args .at .sizes .nodes) (s .args .at .sizes .links) (s .args .count)))
     (part (w .before .before .before .path-room .result) 0 (w .before .before .before .before .few-steps .result - 0))
     (w .show-listed .last .1 .1 .1 .1 .1 .1 .0)
     (s .args .buffer .now)
@@ -49,7 +51,12 @@ asked w =
     in-room (s .pre .0) (s .pre .1) (s .args .buffer .now)
     (λ i. omega (arith, w .before .before .before .before .before .slice-known2 .given i))
     (w .before .before .before .before .few-steps .ensures) (w .before .before .before .path-room .result) (w .before .before .before .path-room .ensures)
-    (w .show-listed .result) (w .show-listed .ensures)
+    (w .show-listed .result) (into-at (s .pre .0) (w .show-listed .ensures))
+
+show-listed-requires : tie.Need-show-listed-requires
+show-listed-requires c κs =
+    let start = c .before .before .before .before .before .before .before in
+    (by-numbers (start .pre .0), start .pre .1)
 
 returns : tie.Need-returns
 returns c =
@@ -78,5 +85,5 @@ returns-2 c =
 pub show-listed-bytes-spec : {M : Type 1} → statement M
 show-listed-bytes-spec =
     tie.close
-    (tie.spec (λ c κs. search needs) (λ c κs. search needs) (search needs) (search needs) (search needs) (λ c κs. search needs) (search needs)
+    (tie.spec (λ c κs. search needs) (λ c κs. search needs) (search needs) (search needs) (search needs) show-listed-requires (search needs)
     (search needs) returns (search needs) (search needs) part-put-words-end put-words-requires (search needs) (search needs) returns-2)

@@ -39,10 +39,10 @@ rest w = drop (3 * w .before .before .before .before .few-records .result - 0) (
 
 asked : (w : Written)
     → let s = w .before .before .before .before .before .before .before .before in
-    RecordsIn (s .args .n) (s .args .l) (s .args .p) (s .args .area .now) (w .write-intervals .last .1 .1 .1 .1 .0) (w .write-intervals .result)
-    (intervals (s .args .b .now) (s .args .area .now) (listIn (s .args .area .now) (s .args .n) (s .args .l) (s .args .count)))
+    RecordsIn (s .args .at) (s .args .area .now) (w .write-intervals .last .1 .1 .0) (w .write-intervals .result)
+    (intervals (s .args .b .now) (s .args .area .now) (listIn (s .args .area .now) (s .args .at .sizes .nodes) (s .args .at .sizes .links) (s .args .count)))
     (part (w .before .before .before .record-room .result) 0 (3 * w .before .before .before .before .few-records .result - 0))
-    (w .write-intervals .last .1 .1 .1 .1 .1 .1 .0)
+    (w .write-intervals .last .1 .1 .1 .1 .0)
     (s .args .buffer .now)
 asked w =
     let s = w .before .before .before .before .before .before .before .before in

@@ -5,7 +5,8 @@ use Rattle.paper.specs.Intervals.{Reply}
 use Rattle.paper.specs.OrderCheck.{orderCheck}
 use Rattle.paper.specs.Words.{wordsFrom}
 use Rattle.answers.specs.Said.{topoSaid}
-use Rattle.with_ports.proofs.WithPorts.{order-passed, ports-fit, check-refused, then-ports}
+use Rattle.tables.proofs.Usable.{still-usable}
+use Rattle.with_ports.proofs.WithPorts.{order-passed, check-refused, then-ports}
 use borrow.Author.Needs.{needs}
 use Rattle.byte_ports.proofs.check_order_with_ports_bytes.Statement.{statement}
 use Rattle.byte_ports.proofs.check_order_with_ports_bytes.Tie as tie
@@ -14,7 +15,7 @@ check-ports-bytes-requires : tie.Need-check-ports-bytes-requires
 check-ports-bytes-requires c κs =
     let checked = c .before .before .before .before in
     let start = checked .before .before .before .before .before .before .before in
-    (start .pre .read, (start .pre .links, ports-fit (start .pre) (checked .check-order-bytes .ensures .kept)))
+    still-usable (start .pre) (checked .check-order-bytes .ensures .kept)
 
 returns : tie.Need-returns
 returns c =
@@ -35,5 +36,4 @@ returns-2 c = check-refused (c .before .before .before .before .check-order-byte
 pub check-order-with-ports-bytes-spec : {M : Type 1} → statement M
 check-order-with-ports-bytes-spec =
     tie.close
-    (tie.spec (λ c κs. search needs) (search needs) (search needs) (search needs) (search needs) (search needs) check-ports-bytes-requires
-    (λ c κs. search needs) (search needs) returns (search needs) returns-2)
+    (tie.spec (λ c κs. search needs) (search needs) check-ports-bytes-requires (λ c κs. search needs) (search needs) returns (search needs) returns-2)

@@ -13,13 +13,13 @@ use Rattle.byte_records.proofs.check_by_records_bytes.Tie as tie
 returns : tie.Need-returns
 returns c =
     let start = c .before .before .before .before in
-    no-records (start .args .n) (start .args .l) (start .args .p) _ _ (c .if1 .taken)
+    no-records (start .args .at) _ _ (c .if1 .taken)
 
 returns-2 : tie.Need-returns-2
 returns-2 c =
     let start = c .before .before .before .before .before in
     by-records-refused (start .pre)
-    (beyond-bytes (start .args .b .now) (start .args .area .now) (start .args .n) (start .args .l) (start .args .p) (start .args .records .now) (c .if2 .taken))
+    (beyond-bytes (start .args .b .now) (start .args .area .now) (start .args .at) (start .args .records .now) (c .if2 .taken))
     (c .before .if1 .left) (BadRecord _) refl (λ e. no-refusal (sym e))
 
 returns-3 : tie.Need-returns-3

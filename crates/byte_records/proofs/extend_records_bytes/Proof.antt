@@ -15,16 +15,16 @@ use Rattle.byte_records.proofs.extend_records_bytes.Tie as tie
 
 returns : tie.Need-returns
 returns c =
-    let start = c .before .before .before .before in
-    into-bytes (start .args .records .now) (λ i. omega (arith, c .before .slice-known2 .given i))
+    let start = c .before .before .before .before .before in
+    into-bytes (start .args .records .now) (λ i. omega (arith, c .before .before .slice-known2 .given i))
     (node-unknown (start .pre) (start .args .node) _ (start .args .count) (c .if1 .taken))
 
 returns-2 : tie.Need-returns-2
 returns-2 c =
-    let start = c .before .before .before .before .before in
-    into-bytes (start .args .records .now) (λ i. omega (arith, c .before .before .slice-known2 .given i))
+    let start = c .before .before .before .before .before .before in
+    into-bytes (start .args .records .now) (λ i. omega (arith, c .before .before .before .slice-known2 .given i))
     (extend-refused (start .pre)
-    (beyond-bytes (start .args .b .now) (start .args .area .now) (start .args .n) (start .args .l) (start .args .p) (start .args .records .now) (c .if2 .taken))
+    (beyond-bytes (start .args .b .now) (start .args .area .now) (start .args .at) (start .args .records .now) (c .if2 .taken))
     (c .before .if1 .left) (BadRecord _) refl (λ e. no-refusal (sym e)))
 
 returns-3 : tie.Need-returns-3
@@ -32,8 +32,8 @@ returns-3 c =
     let extended = c .before .before .before .before in
     let read = extended .before .before .before .before .before in
     let made = read .before .before .before in
-    let start = made .before .before .before .before .before .before in
-    extend-left (start .pre) (start .args .records .now) (λ i. omega (arith, made .before .before .before .slice-known2 .given i))
+    let start = made .before .before .before .before .before .before .before in
+    extend-left (start .pre) (start .args .records .now) (λ i. omega (arith, made .before .before .before .before .slice-known2 .given i))
     (read-part (made .wide-room .result) (start .args .records .now) (made .before .if2 .left) (made .wide-room .ensures) (read .read-records .ensures) (extended .before .before .before .at-most .ensures))
     (made .before .before .if1 .left) (extended .extend-records .result) (extended .extend-records .ensures)
     (c .match .keys2)
@@ -43,10 +43,10 @@ mul-put-words c =
     let extended = c .before .before .before .before .before .before in
     let read = extended .before .before .before .before .before in
     let made = read .before .before .before in
-    let start = made .before .before .before .before .before .before in
+    let start = made .before .before .before .before .before .before .before in
     omega (
       arith,
-      made-few (start .pre) (start .args .records .now) (λ i. omega (arith, made .before .before .before .slice-known2 .given i))
+      made-few (start .pre) (start .args .records .now) (λ i. omega (arith, made .before .before .before .before .slice-known2 .given i))
           (read-part (made .wide-room .result) (start .args .records .now) (made .before .if2 .left) (made .wide-room .ensures) (read .read-records .ensures) (extended .before .before .before .at-most .ensures))
           (made .before .before .if1 .left) (extended .extend-records .result) (extended .extend-records .ensures)
           (c .before .extended .given .1),
@@ -57,8 +57,8 @@ part-put-words-end c =
     let extended = c .before .before .before .before .before .before .before in
     let read = extended .before .before .before .before .before in
     let made = read .before .before .before in
-    let start = made .before .before .before .before .before .before in
-    made-in-room (start .pre) (start .args .records .now) (λ i. omega (arith, made .before .before .before .slice-known2 .given i))
+    let start = made .before .before .before .before .before .before .before in
+    made-in-room (start .pre) (start .args .records .now) (λ i. omega (arith, made .before .before .before .before .slice-known2 .given i))
     (read-part (made .wide-room .result) (start .args .records .now) (made .before .if2 .left) (made .wide-room .ensures) (read .read-records .ensures) (extended .before .before .before .at-most .ensures))
     (made .before .before .if1 .left) (extended .extend-records .result) (extended .extend-records .ensures)
     (c .before .before .extended .given .1) _
@@ -68,8 +68,8 @@ put-words-requires c κs =
     let extended = c .before .before .before .before .before .before .before .before .before in
     let read = extended .before .before .before .before .before in
     let made = read .before .before .before in
-    let start = made .before .before .before .before .before .before in
-    made-inside (start .pre) (start .args .records .now) (λ i. omega (arith, made .before .before .before .slice-known2 .given i))
+    let start = made .before .before .before .before .before .before .before in
+    made-inside (start .pre) (start .args .records .now) (λ i. omega (arith, made .before .before .before .before .slice-known2 .given i))
     (read-part (made .wide-room .result) (start .args .records .now) (made .before .if2 .left) (made .wide-room .ensures) (read .read-records .ensures) (extended .before .before .before .at-most .ensures))
     (made .before .before .if1 .left) (extended .extend-records .result) (extended .extend-records .ensures)
     (c .before .before .before .before .extended .given .1) _
@@ -79,8 +79,8 @@ returns-4 c =
     let extended = c .before .before .before .before .before .before .before .before .before .before .before .before in
     let read = extended .before .before .before .before .before in
     let made = read .before .before .before in
-    let start = made .before .before .before .before .before .before in
-    extend-put (start .pre) (start .args .records .now) (λ i. omega (arith, made .before .before .before .slice-known2 .given i))
+    let start = made .before .before .before .before .before .before .before in
+    extend-put (start .pre) (start .args .records .now) (λ i. omega (arith, made .before .before .before .before .slice-known2 .given i))
     (read-part (made .wide-room .result) (start .args .records .now) (made .before .if2 .left) (made .wide-room .ensures) (read .read-records .ensures) (extended .before .before .before .at-most .ensures))
     (made .before .before .if1 .left) (extended .extend-records .result) (extended .extend-records .ensures)
     (c .before .before .before .before .before .before .before .extended .given .1) _ (c .before .before .put-words .ensures)

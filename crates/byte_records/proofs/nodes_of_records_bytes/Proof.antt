@@ -10,7 +10,8 @@ use Rattle.paper.specs.Refusals.{Ruling, rule11}
 use Rattle.paper.specs.Words.{wordsFrom}
 use Rattle.refusals.proofs.Rulings.{no-refusal}
 use Rattle.tables.proofs.Within.{within-none}
-use Rattle.intervals.proofs.Into.{into-answered, into-refused}
+use Rattle.intervals.proofs.Into.{into-refused}
+use Rattle.line_checker.proofs.ByPlaces.{into-answered}
 use Rattle.line_checker.proofs.RecordCalls.{records-refused}
 use Rattle.byte_records.proofs.Crossed.{beyond-bytes}
 use Rattle.byte_records.proofs.InRoom.{read-all}
@@ -29,7 +30,7 @@ returns c =
     (into-answered within-none (
     into-refused _ _ _ _
     (records-refused (start .pre)
-    (beyond-bytes (start .args .b .now) (start .args .area .now) (start .args .n) (start .args .l) (start .args .p) (start .args .records .now) (c .if1 .taken))
+    (beyond-bytes (start .args .b .now) (start .args .area .now) (start .args .at) (start .args .records .now) (c .if1 .taken))
     refl (λ e. no-refusal (sym e)) rest)
     ))
 

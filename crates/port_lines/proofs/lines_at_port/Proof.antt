@@ -5,20 +5,20 @@ use native.Mathlib.Omega.{arith}
 use mathlib.Core.Path.{refl, ap₂, _∙_}
 use lib.Seq.{slice}
 use borrow.Author.Needs.{needs}
-use Rattle.tables.proofs.WordsBy.{between}
-use Rattle.port_lines.proofs.PortLines.{view-few, view-inside}
+use Rattle.tables.proofs.Words.{between}
+use Rattle.port_lines.proofs.PortLines.{view-inside}
 use Rattle.port_lines.proofs.lines_at_port.Statement.{statement}
 use Rattle.port_lines.proofs.lines_at_port.Tie as tie
 
 add-result : tie.Need-add-result
 add-result c =
     let pre = c .before .before .before .before .pre in
-    omega (arith, view-few (pre .0) (pre .1), c .before .view-start .ensures, c .line-count .ensures, pre .0 .read .few-nodes, pre .0 .read .few-links)
+    omega (arith, view-inside (pre .0) (pre .1), c .before .view-start .ensures, c .line-count .ensures)
 
 mul-result : tie.Need-mul-result
 mul-result c =
     let pre = c .before .before .before .before .pre in
-    omega (arith, view-few (pre .0) (pre .1), c .before .view-start .ensures, c .line-count .ensures, pre .0 .read .few-nodes, pre .0 .read .few-links)
+    omega (arith, view-inside (pre .0) (pre .1), c .before .view-start .ensures, c .line-count .ensures)
 
 part-result-end : tie.Need-part-result-end
 part-result-end c =

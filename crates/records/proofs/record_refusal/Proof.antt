@@ -16,4 +16,7 @@ returns-2 : tie.Need-returns-2
 returns-2 c = ap checkedSaid (sym (c .before .checked .given .1))
 
 pub record-refusal-spec : {M : Type 1} → statement M
-record-refusal-spec = tie.close (tie.spec (search needs) (search needs) never-requires returns returns-2)
+record-refusal-spec =
+    tie.close
+    (tie.spec
+    (search needs) (search needs) never-requires returns returns-2)

@@ -4,7 +4,8 @@ use mathlib.Core.Path.{ap}
 use Rattle.paper.specs.Intervals.{Reply}
 use Rattle.paper.specs.Walk.{lineCheck}
 use Rattle.answers.specs.Said.{lineSaid}
-use Rattle.with_ports.proofs.WithPorts.{line-passed, ports-fit, check-refused, then-ports}
+use Rattle.tables.proofs.Usable.{still-usable}
+use Rattle.with_ports.proofs.WithPorts.{line-passed, check-refused, then-ports}
 use borrow.Author.Needs.{needs}
 use Rattle.with_ports.proofs.check_list_with_ports.Statement.{statement}
 use Rattle.with_ports.proofs.check_list_with_ports.Tie as tie
@@ -13,7 +14,7 @@ check-ports-requires : tie.Need-check-ports-requires
 check-ports-requires c κs =
     let checked = c .before .before .before .before in
     let start = checked .before .before .before .before .before .before .before in
-    (start .pre .read, (start .pre .links, ports-fit (start .pre) (checked .check-list .ensures .kept)))
+    still-usable (start .pre) (checked .check-list .ensures .kept)
 
 returns : tie.Need-returns
 returns c =

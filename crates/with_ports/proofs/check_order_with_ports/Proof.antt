@@ -3,22 +3,18 @@
 use mathlib.Core.Path.{ap}
 use Rattle.paper.specs.Intervals.{Reply}
 use Rattle.paper.specs.OrderCheck.{orderCheck}
-use Rattle.tables.proofs.Bridge.{by-numbers, scratched-at}
-use Rattle.line_checker.proofs.ByPlaces.{answered-at}
 use Rattle.answers.specs.Said.{topoSaid}
-use Rattle.with_ports.proofs.WithPorts.{order-passed, ports-fit, check-refused, then-ports}
+use Rattle.tables.proofs.Usable.{still-usable}
+use Rattle.with_ports.proofs.WithPorts.{order-passed, check-refused, then-ports}
 use borrow.Author.Needs.{needs}
 use Rattle.with_ports.proofs.check_order_with_ports.Statement.{statement}
 use Rattle.with_ports.proofs.check_order_with_ports.Tie as tie
-
-check-order-requires : tie.Need-check-order-requires
-check-order-requires c κs = by-numbers (c .before .before .before .before .before .before .pre)
 
 check-ports-requires : tie.Need-check-ports-requires
 check-ports-requires c κs =
     let checked = c .before .before .before .before in
     let start = checked .before .before .before .before .before .before .before in
-    (start .pre .read, (start .pre .links, ports-fit (start .pre) (scratched-at (start .pre) (checked .check-order .ensures .kept))))
+    still-usable (start .pre) (checked .check-order .ensures .kept)
 
 returns : tie.Need-returns
 returns c =
@@ -27,19 +23,16 @@ returns c =
     let checked = told .before .before .before in
     let start = checked .before .before .before .before .before .before .before in
     then-ports {x = orderCheck (start .args .b .now) (start .args .area .now) (start .args .list .now)}
-    (answered-at (start .pre) (checked .check-order .ensures))
+    (checked .check-order .ensures)
     (order-passed (checked .check-order .result) (told .match .keys2))
     (looked .check-ports .ensures)
     Reply.No
     (c .order-after-ports .ensures)
 
 returns-2 : tie.Need-returns-2
-returns-2 c =
-    let checked = c .before .before .before .before in
-    let start = checked .before .before .before .before .before .before .before in
-    check-refused (answered-at (start .pre) (checked .check-order .ensures)) (ap topoSaid (c .enum-told .given .1)) _ _
+returns-2 c = check-refused (c .before .before .before .before .check-order .ensures) (ap topoSaid (c .enum-told .given .1)) _ _
 
 pub check-order-with-ports-spec : {M : Type 1} → statement M
 check-order-with-ports-spec =
     tie.close
-    (tie.spec check-order-requires (search needs) check-ports-requires (λ c κs. search needs) (search needs) returns (search needs) returns-2)
+    (tie.spec (λ c κs. search needs) (search needs) check-ports-requires (λ c κs. search needs) (search needs) returns (search needs) returns-2)

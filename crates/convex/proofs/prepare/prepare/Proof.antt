@@ -15,7 +15,7 @@ returns : tie.Need-returns
 returns c =
     let matched = c .before .before in
     let ordered = matched .before .before .before .order-map in
-    refused-up (ordered .ensures) (c .refusal .result) (is-refusal (ordered .result) (matched .match .keys2)) (c .refusal .ensures)
+    refused-up (ordered .ensures) (c .refusal .result) (matched .match .keys2) (c .refusal .ensures)
 
 lay-lines-requires : tie.Need-lay-lines-requires
 lay-lines-requires c κs =

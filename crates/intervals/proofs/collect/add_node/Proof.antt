@@ -8,77 +8,53 @@ use Rattle.intervals.proofs.collect.add_node.Statement.{statement}
 use Rattle.intervals.proofs.collect.add_node.Tie as tie
 
 abbrev Inv-loop : tie.InvT-loop
-Inv-loop n l area₀ records₀ made v pos to e₀ stand₀ area records e stand = NodeTurn n l area₀ records₀ made v area records stand e
+Inv-loop at room area₀ records₀ made v pos to e₀ stand₀ area records e stand = NodeTurn at room area₀ records₀ made v area records stand e
 
 abbrev μ-loop : tie.MeasureT-loop
-μ-loop n l area₀ records₀ made v pos to e₀ stand₀ area records e stand = to - e
+μ-loop at room area₀ records₀ made v pos to e₀ stand₀ area records e stand = to - e
 
 add-pos : tie.Need-add-pos Inv-loop μ-loop
-add-pos c = omega (arith, c .before .before .pre .usable .read .few-nodes)
-
-add-pos-2 : tie.Need-add-pos-2 Inv-loop μ-loop
-add-pos-2 c = omega (arith, c .before .before .pre .usable .read .few-nodes, c .before .before .pre .known)
+add-pos c =
+    let pre = c .before .before .before .pre in
+    omega (arith, pre .usable .placed, pre .usable .room, pre .known)
 
 mul-pos : tie.Need-mul-pos Inv-loop μ-loop
-mul-pos c = omega (arith, c .before .before .pre .usable .read .few-nodes, c .before .before .pre .known)
+mul-pos c =
+    let pre = c .before .before .before .pre in
+    omega (arith, pre .usable .placed, pre .usable .room, pre .known)
 
 slice-read-pos : tie.Need-slice-read-pos Inv-loop μ-loop
-slice-read-pos c = omega (arith, c .before .before .before .pre .usable .room, c .before .before .before .pre .known)
-
-mul-word-at : tie.Need-mul-word-at Inv-loop μ-loop
-mul-word-at c = omega (arith, c .before .before .before .before .pre .usable .read .few-nodes)
+slice-read-pos c =
+    let pre = c .before .before .before .before .pre in
+    omega (arith, pre .usable .placed, pre .usable .room, pre .known)
 
 add-word-at : tie.Need-add-word-at Inv-loop μ-loop
-add-word-at c = omega (arith, c .before .before .before .before .pre .usable .read .few-nodes)
-
-add-word-at-2 : tie.Need-add-word-at-2 Inv-loop μ-loop
-add-word-at-2 c = omega (arith, c .before .before .before .before .pre .usable .read .few-nodes, c .before .before .before .before .pre .known)
+add-word-at c =
+    let pre = c .before .before .before .before .before .pre in
+    omega (arith, pre .usable .read .few-nodes, pre .known)
 
 word-at-requires : tie.Need-word-at-requires Inv-loop μ-loop
-word-at-requires c κs = omega (arith, c .before .before .before .before .pre .usable .room, c .before .before .before .before .pre .known)
-
-mul-word-at-2 : tie.Need-mul-word-at-2 Inv-loop μ-loop
-mul-word-at-2 c = omega (arith, c .before .before .before .before .before .before .pre .usable .read .few-nodes)
-
-add-word-at-3 : tie.Need-add-word-at-3 Inv-loop μ-loop
-add-word-at-3 c = omega (arith, c .before .before .before .before .before .before .pre .usable .read .few-nodes)
+word-at-requires c κs =
+    let pre = c .before .before .before .before .before .pre in
+    omega (arith, pre .usable .placed, pre .usable .room, pre .known)
 
 word-at-requires-2 : tie.Need-word-at-requires-2 Inv-loop μ-loop
-word-at-requires-2 c κs = omega (arith, c .before .before .before .before .before .before .pre .usable .room, c .before .before .before .before .before .before .pre .known)
+word-at-requires-2 c κs =
+    let pre = c .before .before .before .before .before .before .before .pre in
+    omega (arith, pre .usable .placed, pre .usable .room, pre .known)
 
 loop-holds : tie.Need-loop-holds Inv-loop μ-loop
-loop-holds c = node-first (c .before .before .before .before .before .before .before .pre) (c .word-at2 .ensures)
-
-mul-word-at-3 : tie.Need-mul-word-at-3 Inv-loop μ-loop
-mul-word-at-3 c = omega (arith, c .before .before .before .before .before .before .before .before .before .before .pre .usable .read .few-nodes)
-
-add-word-at-4 : tie.Need-add-word-at-4 Inv-loop μ-loop
-add-word-at-4 c = omega (arith, c .before .before .before .before .before .before .before .before .before .before .pre .usable .read .few-nodes)
+loop-holds c = node-first (c .before .before .before .before .before .before .before .before .pre) (c .word-at2 .ensures)
 
 word-at-requires-3 : tie.Need-word-at-requires-3 Inv-loop μ-loop
 word-at-requires-3 c κs =
     let turn = c .before in
-    line-inside (turn .before .before .before .before .before .before .before .before .before .pre) (turn .before .loop .inv) (omega (arith, turn .loop-test .taken, turn .before .before .before .before .word-at .ensures))
-
-add-small-map-add : tie.Need-add-small-map-add Inv-loop μ-loop
-add-small-map-add c = omega (arith, c .before .before .before .before .before .before .before .before .before .before .before .pre .usable .read .few-nodes, c .before .before .before .before .before .before .before .before .before .before .before .pre .usable .read .few-links)
-
-mul-small-map-add : tie.Need-mul-small-map-add Inv-loop μ-loop
-mul-small-map-add c = omega (arith, c .before .before .before .before .before .before .before .before .before .before .before .pre .usable .read .few-nodes)
-
-add-small-map-add-2 : tie.Need-add-small-map-add-2 Inv-loop μ-loop
-add-small-map-add-2 c = omega (arith, c .before .before .before .before .before .before .before .before .before .before .before .pre .usable .read .few-nodes)
-
-mul-small-map-add-2 : tie.Need-mul-small-map-add-2 Inv-loop μ-loop
-mul-small-map-add-2 c = omega (arith, c .before .before .before .before .before .before .before .before .before .before .before .pre .usable .read .few-links)
-
-add-small-map-add-3 : tie.Need-add-small-map-add-3 Inv-loop μ-loop
-add-small-map-add-3 c = omega (arith, c .before .before .before .before .before .before .before .before .before .before .before .pre .usable .read .few-nodes, c .before .before .before .before .before .before .before .before .before .before .before .pre .usable .read .few-links)
+    line-inside (turn .before .before .before .before .before .before .before .before .before .before .pre) (turn .before .loop .inv) (omega (arith, turn .loop-test .taken, turn .before .before .before .before .word-at .ensures))
 
 small-map-add-requires : tie.Need-small-map-add-requires Inv-loop μ-loop
 small-map-add-requires c κs =
     let turn = c .before .before .before .before in
-    can-add (turn .before .before .before .before .before .before .before .before .before .pre) (turn .before .loop .inv) (omega (arith, turn .loop-test .taken, turn .before .before .before .before .word-at .ensures)) (c .before .before .word-at3 .ensures)
+    can-add (turn .before .before .before .before .before .before .before .before .before .before .pre) (turn .before .loop .inv) (omega (arith, turn .loop-test .taken, turn .before .before .before .before .word-at .ensures)) (c .before .before .word-at3 .ensures)
 
 add-e : tie.Need-add-e Inv-loop μ-loop
 add-e c = omega (arith, c .before .before .before .before .before .before .before .before .before .loop-test .taken)
@@ -89,7 +65,7 @@ loop-less c = omega (arith, c .before .before .before .before .before .before .b
 loop-again : tie.Need-loop-again Inv-loop μ-loop
 loop-again c =
     let turn = c .before .before .before .before .before .before .before .before .before in
-    node-on (turn .before .before .before .before .before .before .before .before .before .pre) (turn .before .loop .inv) (omega (arith, turn .loop-test .taken, turn .before .before .before .before .word-at .ensures)) (c .before .before .before .before .before .before .before .word-at3 .ensures)
+    node-on (turn .before .before .before .before .before .before .before .before .before .before .pre) (turn .before .loop .inv) (omega (arith, turn .loop-test .taken, turn .before .before .before .before .word-at .ensures)) (c .before .before .before .before .before .before .before .word-at3 .ensures)
     (c .before .before .before .before .small-map-add .ensures)
 
 same-length : tie.Need-same-length Inv-loop μ-loop
@@ -99,38 +75,11 @@ same-length-2 : tie.Need-same-length-2 Inv-loop μ-loop
 same-length-2 c = c .before .loop .inv .became .long
 
 returns : tie.Need-returns Inv-loop μ-loop
-returns c = node-done (c .before .before .before .before .before .before .before .before .before .pre) (c .before .loop .inv) (omega (arith, c .loop-test .left, c .before .before .before .before .word-at .ensures))
+returns c = node-done (c .before .before .before .before .before .before .before .before .before .before .pre) (c .before .loop .inv) (omega (arith, c .loop-test .left, c .before .before .before .before .word-at .ensures))
 
 pub add-node-spec : {M : Type 1} → statement M
 add-node-spec =
     tie.close
     (tie.spec
-    Inv-loop
-    μ-loop
-    add-pos
-    add-pos-2
-    mul-pos
-    slice-read-pos
-    mul-word-at
-    add-word-at
-    add-word-at-2
-    word-at-requires
-    mul-word-at-2
-    add-word-at-3
-    word-at-requires-2
-    loop-holds
-    mul-word-at-3
-    add-word-at-4
-    word-at-requires-3
-    add-small-map-add
-    mul-small-map-add
-    add-small-map-add-2
-    mul-small-map-add-2
-    add-small-map-add-3
-    small-map-add-requires
-    add-e
-    loop-less
-    loop-again
-    same-length
-    same-length-2
-    returns)
+    Inv-loop μ-loop add-pos mul-pos slice-read-pos add-word-at word-at-requires word-at-requires-2 loop-holds word-at-requires-3
+    small-map-add-requires add-e loop-less loop-again same-length same-length-2 returns)

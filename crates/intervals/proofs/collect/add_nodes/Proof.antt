@@ -8,25 +8,13 @@ use Rattle.intervals.proofs.collect.add_nodes.Statement.{statement}
 use Rattle.intervals.proofs.collect.add_nodes.Tie as tie
 
 abbrev Inv-loop : tie.InvT-loop
-Inv-loop n l area₀ records₀ count i₀ stand₀ area records i stand = NodesTurn n l area₀ records₀ count area records stand i
+Inv-loop at room area₀ records₀ count i₀ stand₀ area records i stand = NodesTurn at room area₀ records₀ count area records stand i
 
 abbrev μ-loop : tie.MeasureT-loop
-μ-loop n l area₀ records₀ count i₀ stand₀ area records i stand = count - i
+μ-loop at room area₀ records₀ count i₀ stand₀ area records i stand = count - i
 
 loop-holds : tie.Need-loop-holds Inv-loop μ-loop
 loop-holds c = nodes-first (c .before .before .pre)
-
-mul-word-at : tie.Need-mul-word-at Inv-loop μ-loop
-mul-word-at c = omega (arith, c .before .before .before .before .before .pre .usable .read .few-nodes)
-
-add-word-at : tie.Need-add-word-at Inv-loop μ-loop
-add-word-at c = omega (arith, c .before .before .before .before .before .pre .usable .read .few-nodes)
-
-mul-word-at-2 : tie.Need-mul-word-at-2 Inv-loop μ-loop
-mul-word-at-2 c = omega (arith, c .before .before .before .before .before .pre .usable .read .few-links)
-
-add-word-at-2 : tie.Need-add-word-at-2 Inv-loop μ-loop
-add-word-at-2 c = omega (arith, c .before .before .before .before .before .pre .usable .read .few-nodes, c .before .before .before .before .before .pre .usable .read .few-links)
 
 word-at-requires : tie.Need-word-at-requires Inv-loop μ-loop
 word-at-requires c κs =
@@ -62,18 +50,4 @@ pub add-nodes-spec : {M : Type 1} → statement M
 add-nodes-spec =
     tie.close
     (tie.spec
-    Inv-loop
-    μ-loop
-    loop-holds
-    mul-word-at
-    add-word-at
-    mul-word-at-2
-    add-word-at-2
-    word-at-requires
-    add-node-requires
-    add-i
-    loop-less
-    loop-again
-    same-length
-    same-length-2
-    returns)
+    Inv-loop μ-loop loop-holds word-at-requires add-node-requires add-i loop-less loop-again same-length same-length-2 returns)

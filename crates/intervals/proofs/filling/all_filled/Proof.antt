@@ -12,10 +12,10 @@ use Rattle.intervals.proofs.filling.all_filled.Statement.{statement}
 use Rattle.intervals.proofs.filling.all_filled.Tie as tie
 
 abbrev Inv-loop : tie.InvT-loop
-Inv-loop area n l records made i₀ i = (i ≤ made) × ((j : ℕ) → j < i → fillsRecord area n l records j ≡ true)
+Inv-loop area at room records made i₀ i = (i ≤ made) × ((j : ℕ) → j < i → fillsRecord area at room records j ≡ true)
 
 abbrev μ-loop : tie.MeasureT-loop
-μ-loop area n l records made i₀ i = made - i
+μ-loop area at room records made i₀ i = made - i
 
 loop-holds : tie.Need-loop-holds Inv-loop μ-loop
 loop-holds c = (omega arith, λ j h. absurd (omega arith))
@@ -28,7 +28,7 @@ returns c =
     let turn = c .before .before in
     let args = turn .before .before .before .before .args in
     sym
-    (all-false (fillsRecord (args .area .now) (args .n) (args .l) (args .records .now)) (args .made) (turn .before .loop .i) (turn .loop-test .taken)
+    (all-false (fillsRecord (args .area .now) (args .at) (args .room) (args .records .now)) (args .made) (turn .before .loop .i) (turn .loop-test .taken)
     (sym (c .before .fills-record .ensures) ∙ not-true _ (c .if1 .taken)))
 
 add-i : tie.Need-add-i Inv-loop μ-loop
@@ -44,8 +44,10 @@ loop-again c =
 returns-2 : tie.Need-returns-2 Inv-loop μ-loop
 returns-2 c =
     let args = c .before .before .before .before .args in
-    all-through (fillsRecord (args .area .now) (args .n) (args .l) (args .records .now)) (c .loop-test .left) (c .before .loop .inv .1)
+    all-through (fillsRecord (args .area .now) (args .at) (args .room) (args .records .now)) (c .loop-test .left) (c .before .loop .inv .1)
 
 pub all-filled-spec : {M : Type 1} → statement M
 all-filled-spec =
-    tie.close (tie.spec Inv-loop μ-loop loop-holds fills-record-requires returns add-i loop-less loop-again returns-2)
+    tie.close
+    (tie.spec
+    Inv-loop μ-loop loop-holds fills-record-requires returns add-i loop-less loop-again returns-2)

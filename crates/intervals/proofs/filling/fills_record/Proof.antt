@@ -20,15 +20,15 @@ entries-requires c κs =
 
 fills-line-requires : tie.Need-fills-line-requires
 fills-line-requires c κs =
-    let counted = c .before .before in
+    let counted = c .before .before .before in
     let x = counted .before .before .before in
-    given (start x .pre) (x .wide .ensures) (counted .before .before .word-at .ensures) (counted .word-at3 .ensures) (c .before .entries .ensures)
+    given (start x .pre) (x .wide .ensures) (counted .before .before .word-at .ensures) (counted .word-at3 .ensures) (c .before .before .entries .ensures)
 
 returns : tie.Need-returns
 returns c =
-    let counted = c .before .before .before in
+    let counted = c .before .before .before .before in
     let x = counted .before .before .before in
-    record-tested (start x .pre) (x .wide .ensures) (counted .before .before .word-at .ensures) (counted .word-at3 .ensures) (c .before .before .entries .ensures)
+    record-tested (start x .pre) (x .wide .ensures) (counted .before .before .word-at .ensures) (counted .word-at3 .ensures) (c .before .before .before .entries .ensures)
     (counted .before .word-at2 .ensures)
     (c .fills-line .ensures)
 
@@ -37,6 +37,5 @@ fills-record-spec =
     tie.close
     (tie.spec
     (search needs) (search needs) (search needs) (λ c κs. search needs) (search needs) (λ c κs. search needs) (search needs)
-    (λ c κs. search needs) (search needs) (search needs) (search needs) (search needs) (search needs) (search needs) word-at-requires-3
-    (search needs) (search needs) (search needs) (search needs) (search needs) (search needs) (search needs) (search needs) entries-requires
-    (search needs) (search needs) (search needs) (search needs) (search needs) (search needs) (search needs) fills-line-requires returns)
+    (λ c κs. search needs) word-at-requires-3 entries-requires (search needs) (search needs) (search needs) (search needs) (search needs)
+    fills-line-requires returns)

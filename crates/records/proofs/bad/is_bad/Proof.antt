@@ -4,7 +4,7 @@ use Prim.Native.Nat.{_<_}
 use native.Mathlib.Omega.{arith}
 use borrow.Author.Needs.{needs}
 use Rattle.paper.specs.Area.{K}
-use Rattle.tables.proofs.WordsBy.{count-is, count-few}
+use Rattle.tables.proofs.Words.{count-is, count-few}
 use Rattle.records.proofs.Slotting.{mark-set, mark-clear}
 use Rattle.records.proofs.Reasons.{unknown-line, used-line, low-off, high-off, order-decides}
 use Rattle.records.proofs.bad.is_bad.Statement.{statement}
@@ -22,13 +22,13 @@ returns c =
 word-at-requires-3 : tie.Need-word-at-requires-3
 word-at-requires-3 c κs =
     let start = c .before .before .before .before .before .before .before .before .before .before in
-    omega (arith, known c, count-few (start .pre .0), start .pre .0 .room)
+    omega (arith, known c, count-few (start .pre .0), start .pre .1 .0, start .pre .0 .placed .after-scratch, start .pre .0 .room)
 
 returns-2 : tie.Need-returns-2
 returns-2 c =
     let reads = c .before .before .before .before .before in
     let start = reads .before .before .before .before .before .before .before in
-    used-line (start .args .b .now) (start .args .area .now) (start .args .words .now) (start .args .i) (reads .before .before .wide .ensures) (reads .before .word-at .ensures) (reads .word-at2 .ensures) (mark-set (start .pre .0) (start .pre .1 .0) (known (c .before .before)) (c .before .word-at3 .ensures) (c .if2 .taken))
+    used-line (start .args .b .now) (start .args .area .now) (start .args .words .now) (start .args .i) (reads .before .before .wide .ensures) (reads .before .word-at .ensures) (reads .word-at2 .ensures) (mark-set (start .pre .0) (start .pre .1 .1 .0) (known (c .before .before)) (c .before .word-at3 .ensures) (c .if2 .taken))
 
 stands-on-requires : tie.Need-stands-on-requires
 stands-on-requires c κs = (c .before .before .before .before .before .before .before .before .before .before .before .before .pre .0, known (c .before .before))
@@ -53,7 +53,7 @@ returns-5 c =
     let reads = c .before .before .before .before .before .before .before .before .before in
     let start = reads .before .before .before .before .before .before .before in
     let marked = c .before .before .before .before in
-    order-decides (start .args .b .now) (start .args .area .now) (start .args .words .now) (start .args .i) (reads .before .before .wide .ensures) (reads .before .word-at .ensures) (reads .word-at2 .ensures) (known (marked .before .before)) (mark-clear (start .pre .0) (start .pre .1 .0) (known (marked .before .before)) (marked .before .word-at3 .ensures) (search needs))
+    order-decides (start .args .b .now) (start .args .area .now) (start .args .words .now) (start .args .i) (reads .before .before .wide .ensures) (reads .before .word-at .ensures) (reads .word-at2 .ensures) (known (marked .before .before)) (mark-clear (start .pre .0) (start .pre .1 .1 .0) (known (marked .before .before)) (marked .before .word-at3 .ensures) (search needs))
     (c .before .before .before .stands-on .ensures) (c .before .before .if3 .left) (c .before .stands-on2 .ensures) (c .if4 .left)
 
 pub is-bad-spec : {M : Type 1} → statement M
@@ -61,5 +61,4 @@ is-bad-spec =
     tie.close
     (tie.spec
     (search needs) (search needs) (search needs) (λ c κs. search needs) (λ c κs. search needs) (λ c κs. search needs) (search needs)
-    (λ c κs. search needs) returns (search needs) (search needs) (search needs) (search needs) (search needs) (search needs)
-    word-at-requires-3 returns-2 stands-on-requires returns-3 stands-on-requires-2 returns-4 returns-5)
+    (λ c κs. search needs) returns word-at-requires-3 returns-2 stands-on-requires returns-3 stands-on-requires-2 returns-4 returns-5)

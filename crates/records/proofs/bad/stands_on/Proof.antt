@@ -20,5 +20,7 @@ returns-2 c =
     stands-there (start .pre .0) (start .pre .1) (start .args .pos) (c .before .before .index-on .ensures) (c .enum-told .given .1)
 
 pub stands-on-spec : {M : Type 1} → statement M
-stands-on-spec = tie.close (tie.spec
+stands-on-spec =
+    tie.close
+    (tie.spec
     index-on-requires (search needs) (search needs) returns returns-2)

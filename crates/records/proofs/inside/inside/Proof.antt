@@ -8,16 +8,15 @@ use Rattle.records.proofs.inside.inside.Tie as tie
 inside-on-some-requires : tie.Need-inside-on-some-requires
 inside-on-some-requires c κs =
     let start = c .before .before .before .before in
-    slots-read (start .args .area .now) (start .args .words .now) (start .args .n) (start .args .l) (start .args .v) (c .before .entries .ensures) (c .word-at .ensures) (start .pre)
+    slots-read (start .args .area .now) (start .args .words .now) (start .args .at) (start .args .slots) (start .args .v) (c .before .entries .ensures) (c .word-at .ensures) (start .pre)
 
 returns : tie.Need-returns
 returns c =
     let start = c .before .before .before .before .before in
-    node-inside (start .args .area .now) (start .args .words .now) (start .args .n) (start .args .l) (start .args .v) (c .before .before .entries .ensures) (c .before .word-at .ensures) (c .inside-on-some .ensures)
+    node-inside (start .args .area .now) (start .args .words .now) (start .args .at) (start .args .slots) (start .args .v) (c .before .before .entries .ensures) (c .before .word-at .ensures) (c .inside-on-some .ensures)
 
 pub inside-spec : {M : Type 1} → statement M
 inside-spec =
     tie.close
     (tie.spec
-    (search needs) (search needs) (search needs) (search needs) (λ c κs. search needs) (search needs) (λ c κs. search needs)
-    inside-on-some-requires returns)
+    (λ c κs. search needs) (λ c κs. search needs) inside-on-some-requires returns)

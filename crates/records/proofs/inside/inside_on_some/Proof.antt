@@ -13,10 +13,10 @@ use Rattle.records.proofs.inside.inside_on_some.Statement.{statement}
 use Rattle.records.proofs.inside.inside_on_some.Tie as tie
 
 abbrev Inv-loop : tie.InvT-loop
-Inv-loop area n l words lines pos i₀ i = (i ≤ length lines) × ((j : ℕ) → j < i → insideSlot area words n l pos (getD lines j 0) ≡ false)
+Inv-loop area slots words lines pos i₀ i = (i ≤ length lines) × ((j : ℕ) → j < i → insideSlot area words slots pos (getD lines j 0) ≡ false)
 
 abbrev μ-loop : tie.MeasureT-loop
-μ-loop area n l words lines pos i₀ i = length lines - i
+μ-loop area slots words lines pos i₀ i = length lines - i
 
 loop-holds : tie.Need-loop-holds Inv-loop μ-loop
 loop-holds c = (omega arith, below-none _)
@@ -25,26 +25,26 @@ inside-on-requires : tie.Need-inside-on-requires Inv-loop μ-loop
 inside-on-requires c κs =
     let turn = c .before .before in
     let start = turn .before .before .before .before .before in
-    subst (λ (x : ℕ). SlotAt (start .args .area .now) (start .args .words .now) (start .args .n) (start .args .l) x) (sym (c .wide .ensures)) (start .pre .each (turn .before .loop .i) (turn .loop-test .taken))
+    subst (λ (x : ℕ). SlotAt (start .args .area .now) (start .args .words .now) (start .args .slots) x) (sym (c .wide .ensures)) (start .pre .each (turn .before .loop .i) (turn .loop-test .taken))
 
 returns : tie.Need-returns Inv-loop μ-loop
 returns c =
     let read = c .before .before in
     let turn = read .before .before in
     let start = turn .before .before .before .before .before in
-    passes-here (insideSlot (start .args .area .now) (start .args .words .now) (start .args .n) (start .args .l) (start .args .pos)) (start .args .lines .now) (turn .loop-test .taken) (read .wide .ensures) (c .before .inside-on .ensures) (c .if1 .taken)
+    passes-here (insideSlot (start .args .area .now) (start .args .words .now) (start .args .slots) (start .args .pos)) (start .args .lines .now) (turn .loop-test .taken) (read .wide .ensures) (c .before .inside-on .ensures) (c .if1 .taken)
 
 loop-again : tie.Need-loop-again Inv-loop μ-loop
 loop-again c =
     let read = c .before .before in
     let turn = read .before .before in
     let start = turn .before .before .before .before .before in
-    (omega (arith, turn .loop-test .taken), below-more _ _ (turn .before .loop .inv .1) (fails-here (insideSlot (start .args .area .now) (start .args .words .now) (start .args .n) (start .args .l) (start .args .pos)) (start .args .lines .now) (turn .loop-test .taken) (read .wide .ensures) (c .before .inside-on .ensures) (c .if1 .left)))
+    (omega (arith, turn .loop-test .taken), below-more _ _ (turn .before .loop .inv .1) (fails-here (insideSlot (start .args .area .now) (start .args .words .now) (start .args .slots) (start .args .pos)) (start .args .lines .now) (turn .loop-test .taken) (read .wide .ensures) (c .before .inside-on .ensures) (c .if1 .left)))
 
 returns-2 : tie.Need-returns-2 Inv-loop μ-loop
 returns-2 c =
     let start = c .before .before .before .before .before in
-    passed-by (insideSlot (start .args .area .now) (start .args .words .now) (start .args .n) (start .args .l) (start .args .pos)) (start .args .lines .now) (c .loop-test .left) (c .before .loop .inv .1)
+    passed-by (insideSlot (start .args .area .now) (start .args .words .now) (start .args .slots) (start .args .pos)) (start .args .lines .now) (c .loop-test .left) (c .before .loop .inv .1)
 
 pub inside-on-some-spec : {M : Type 1} → statement M
 inside-on-some-spec =

@@ -8,49 +8,49 @@ use Rattle.topo_checker.proofs.layout.keep_places.Statement.{statement}
 use Rattle.topo_checker.proofs.layout.keep_places.Tie as tie
 
 abbrev Inv-loop : tie.InvT-loop
-Inv-loop n area₀ places i₀ area i = (i ≤ n) × KeptBelow area₀ n places i area
+Inv-loop at area₀ places i₀ area i = (i ≤ at .sizes .nodes) × KeptBelow area₀ at places i area
 
 abbrev μ-loop : tie.MeasureT-loop
-μ-loop n area₀ places i₀ area i = n - i
+μ-loop at area₀ places i₀ area i = at .sizes .nodes - i
 
 loop-holds : tie.Need-loop-holds Inv-loop μ-loop
 loop-holds c = (search needs, kept-none)
 
 word-at-requires : tie.Need-word-at-requires Inv-loop μ-loop
 word-at-requires c κs =
-    let head = c .before .before in
-    node-inside (head .before .before .pre) (head .loop .inv .1) (c .before .loop-test .taken)
+    let head = c .before .before .before in
+    node-inside (head .before .before .pre) (head .loop .inv .1) (c .before .if1 .taken)
 
 cast-area : tie.Need-cast-area Inv-loop μ-loop
-cast-area c = omega (arith, c .before .before .loop-test .taken, c .before .before .before .before .before .pre .small)
+cast-area c = omega (arith, c .before .before .if1 .taken, c .before .before .before .before .before .before .pre .small)
 
 add-area : tie.Need-add-area Inv-loop μ-loop
 add-area c =
-    let head = c .before .before .before in
-    omega (arith, place-inside (head .before .before .pre) (head .loop .inv .1) (c .before .before .loop-test .taken) (c .word-at .ensures), head .loop .inv .1 .kept .long)
+    let head = c .before .before .before .before in
+    omega (arith, place-inside (head .before .before .pre) (head .loop .inv .1) (c .before .before .if1 .taken) (c .word-at .ensures), head .loop .inv .1 .kept .long)
 
 mul-area : tie.Need-mul-area Inv-loop μ-loop
 mul-area c =
-    let head = c .before .before .before in
-    omega (arith, place-inside (head .before .before .pre) (head .loop .inv .1) (c .before .before .loop-test .taken) (c .word-at .ensures), head .loop .inv .1 .kept .long)
+    let head = c .before .before .before .before in
+    omega (arith, place-inside (head .before .before .pre) (head .loop .inv .1) (c .before .before .if1 .taken) (c .word-at .ensures), head .loop .inv .1 .kept .long)
 
 slice-write-area : tie.Need-slice-write-area Inv-loop μ-loop
 slice-write-area c =
-    let head = c .before .before .before in
-    place-inside (head .before .before .pre) (head .loop .inv .1) (c .before .before .loop-test .taken) (c .word-at .ensures)
+    let head = c .before .before .before .before in
+    place-inside (head .before .before .pre) (head .loop .inv .1) (c .before .before .if1 .taken) (c .word-at .ensures)
 
 loop-again : tie.Need-loop-again Inv-loop μ-loop
 loop-again c =
-    let head = c .before .before .before in (
-      omega (arith, c .before .before .loop-test .taken),
-      kept-next (head .before .before .pre) (head .loop .inv .1) (c .before .before .loop-test .taken) (c .word-at .ensures),
+    let head = c .before .before .before .before in (
+      omega (arith, c .before .before .if1 .taken),
+      kept-next (head .before .before .pre) (head .loop .inv .1) (c .before .before .if1 .taken) (c .word-at .ensures),
     )
 
 same-length : tie.Need-same-length Inv-loop μ-loop
-same-length c = c .before .loop .inv .1 .kept .long
+same-length c = c .before .before .loop .inv .1 .kept .long
 
 returns : tie.Need-returns Inv-loop μ-loop
-returns c = all-kept (c .before .before .before .pre) (c .before .loop .inv .1) (c .before .loop .inv .0) (c .loop-test .left)
+returns c = all-kept (c .before .before .before .before .pre) (c .before .before .loop .inv .1) (c .before .before .loop .inv .0) (c .if1 .left)
 
 pub keep-places-spec : {M : Type 1} → statement M
 keep-places-spec =

@@ -9,10 +9,10 @@ use Rattle.topo_checker.proofs.listing.take_list.Statement.{statement}
 use Rattle.topo_checker.proofs.listing.take_list.Tie as tie
 
 abbrev Inv-loop : tie.InvT-loop
-Inv-loop n area₀ marks list i₀ area i = (i ≤ length list) × TakenBelow area₀ n marks list i area
+Inv-loop at area₀ room list i₀ area i = (i ≤ length list) × TakenBelow area₀ at room list i area
 
 abbrev μ-loop : tie.MeasureT-loop
-μ-loop n area₀ marks list i₀ area i = length list - i
+μ-loop at area₀ room list i₀ area i = length list - i
 
 loop-holds : tie.Need-loop-holds Inv-loop μ-loop
 loop-holds c = (search needs, taken-none (c .before .before .pre .1) _)

@@ -11,10 +11,10 @@ use Rattle.topo_checker.proofs.listing.take_list_bytes.Statement.{state
 use Rattle.topo_checker.proofs.listing.take_list_bytes.Tie as tie
 
 abbrev Inv-loop : tie.InvT-loop
-Inv-loop n area₀ marks list count i₀ area i = (i ≤ length (wordsFrom list)) × TakenBelow area₀ n marks (wordsFrom list) i area
+Inv-loop at area₀ room list count i₀ area i = (i ≤ length (wordsFrom list)) × TakenBelow area₀ at room (wordsFrom list) i area
 
 abbrev μ-loop : tie.MeasureT-loop
-μ-loop n area₀ marks list count i₀ area i = count - i
+μ-loop at area₀ room list count i₀ area i = count - i
 
 loop-holds : tie.Need-loop-holds Inv-loop μ-loop
 loop-holds c = (search needs, taken-none (c .before .before .pre .1) _)

@@ -15,11 +15,10 @@ returns-3 : tie.Need-returns-3
 returns-3 c = other-listed _ _ _ _ _ _ (c .before .before .before .before .if1 .left) (c .before .before .before .if2 .left) (c .before .word-at .ensures) (c .if3 .taken)
 
 returns-4 : tie.Need-returns-4
-returns-4 c = other-marked _ _ _ _ _ _ (c .before .before .before .before .if1 .left) (c .before .before .before .if2 .left) (c .before .word-at .ensures) (c .if3 .left)
+returns-4 c = other-marked _ _ _ _ _ _ (c .before .before .before .before .before .if1 .left) (c .before .before .before .before .if2 .left) (c .before .before .word-at .ensures) (c .before .if3 .left)
 
 pub mark-other-spec : {M : Type 1} → statement M
 mark-other-spec =
     tie.close
     (tie.spec
-    returns returns-2 (λ c κs. search needs) (search needs) returns-3 (search needs) (search needs) (search needs) (search needs)
-    (search needs) returns-4)
+    returns returns-2 (λ c κs. search needs) (search needs) returns-3 (search needs) (search needs) (search needs) (search needs) returns-4)

@@ -7,10 +7,10 @@ use Rattle.topo_checker.proofs.passing.fed_back.Statement.{statement}
 use Rattle.topo_checker.proofs.passing.fed_back.Tie as tie
 
 abbrev Inv-loop : tie.InvT-loop
-Inv-loop b n l p area₀ first last i₀ area i = (i ≤ last + 1) × GoingOn b area₀ n l p first last i area
+Inv-loop b at area₀ room first last i₀ area i = (i ≤ last + 1) × GoingOn b area₀ at room first last i area
 
 abbrev μ-loop : tie.MeasureT-loop
-μ-loop b n l p area₀ first last i₀ area i = last + 1 - i
+μ-loop b at area₀ room first last i₀ area i = last + 1 - i
 
 loop-holds : tie.Need-loop-holds Inv-loop μ-loop
 loop-holds c = let start = c .before .before in (omega (arith, start .pre .1 .rises), going-first (start .pre .0) (start .pre .1))

@@ -23,7 +23,7 @@ order-sized-requires c κs = read-well _ _ _ _ (ap mapSaid (sym (c .before .befo
 returns-2 : tie.Need-returns-2
 returns-2 c =
     let said = ap mapSaid (sym (c .before .before .before .before .before .map .given .1)) ∙ c .before .before .before .before .before .before .before .read-map .ensures in
-    sized-left _ _ (read-well _ _ _ _ said) (passes _ said) (c .before .before .order-sized .ensures)
+    sized-left _ _ (passes _ said) (c .before .before .order-sized .ensures)
 
 pub order-map-spec : {M : Type 1} → statement M
 order-map-spec =

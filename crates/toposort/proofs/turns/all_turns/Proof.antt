@@ -12,11 +12,11 @@ use Rattle.toposort.proofs.turns.all_turns.Statement.{statement}
 use Rattle.toposort.proofs.turns.all_turns.Tie as tie
 
 abbrev Inv-loop : tie.InvT-loop
-Inv-loop b n area₀ order firsts starts sorted counts joined ordered₀ t₀ area ordered t =
-    (t ≤ ordered) × (ordered ≡ length (queueAfter b t .joined)) × (area ≡ laid b area₀ n order counts (queueAfter b t))
+Inv-loop b at area₀ links joined ordered₀ t₀ area ordered t =
+    (t ≤ ordered) × (ordered ≡ length (queueAfter b t .joined)) × (area ≡ laid b area₀ at links (queueAfter b t))
 
 abbrev μ-loop : tie.MeasureT-loop
-μ-loop b n area₀ order firsts starts sorted counts joined ordered₀ t₀ area ordered t = n - t
+μ-loop b at area₀ links joined ordered₀ t₀ area ordered t = at .sizes .nodes - t
 
 loop-holds : tie.Need-loop-holds Inv-loop μ-loop
 loop-holds c = (search needs, c .before .before .pre .count, none-taken (c .before .before .pre))
@@ -25,7 +25,7 @@ turn-requires : tie.Need-turn-requires Inv-loop μ-loop
 turn-requires c κs = (standing (c .before .before .before .before .before .pre .index) (c .before .before .loop .t) (c .before .before .loop .inv .1) (c .before .before .loop .inv .2), c .before .loop-test .taken)
 
 add-t : tie.Need-add-t Inv-loop μ-loop
-add-t c = omega (arith, turns-left (c .before .before .before .before .before .before .before .before .pre .index) (c .before .before .before .before .before .loop .t) (c .before .before .before .before .before .loop .inv .1) (c .before .before .before .before .before .loop .inv .2) (c .before .before .before .before .loop-test .taken), c .before .before .before .before .before .before .before .before .pre .index .read .few-nodes)
+add-t c = omega (arith, turns-left (c .before .before .before .before .before .before .before .before .pre .index) (c .before .before .before .before .before .loop .t) (c .before .before .before .before .before .loop .inv .1) (c .before .before .before .before .before .loop .inv .2) (c .before .before .before .before .loop-test .taken), c .before .before .before .before .before .before .before .before .pre .index .linked .read .few-nodes)
 
 loop-less : tie.Need-loop-less Inv-loop μ-loop
 loop-less c = omega (arith, turns-left (c .before .before .before .before .before .before .before .before .pre .index) (c .before .before .before .before .before .loop .t) (c .before .before .before .before .before .loop .inv .1) (c .before .before .before .before .before .loop .inv .2) (c .before .before .before .before .loop-test .taken))

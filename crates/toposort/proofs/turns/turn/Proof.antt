@@ -1,6 +1,6 @@
 -- `toposort::turns::turn` meets its contract: after each link of the front the area is as the state within the turn lays it.
 -- Rests on Turning.
-use Prim.Native.Nat.{_+_, _-_, _*_, _^_, _≤_, _<_}
+use Prim.Native.Nat.{_+_, _-_, _≤_, _<_}
 use native.Mathlib.Omega.{arith}
 use borrow.Author.Needs.{needs}
 use mathlib.Core.Path.{_≡_, ap, _∙_}
@@ -13,15 +13,14 @@ use Rattle.toposort.proofs.Turning.{
   stands,
   front-inside,
   front-is,
-  spanned,
-  spanned-next,
+  front-known,
   from,
   to,
   from-is,
   to-is,
   from-to,
-  link-inside,
-  has-link,
+  inside,
+  linked-on,
   ready,
   counted,
   followed-on,
@@ -32,113 +31,109 @@ use Rattle.toposort.proofs.turns.turn.Statement.{statement}
 use Rattle.toposort.proofs.turns.turn.Tie as tie
 
 abbrev Inv-loop : tie.InvT-loop
-Inv-loop b n area₀ order firsts starts sorted counts t joined v at₀ end grown₀ area at grown =
-    (at₀ ≤ at) × (at ≤ end) × (grown ≡ length (midTurn b t (at - at₀) .joined))
-    × (area ≡ laid b area₀ n order counts (midTurn b t (at - at₀)))
+Inv-loop b at area₀ links t joined v i₀ end grown₀ area i grown =
+    (i₀ ≤ i) × (i ≤ end) × (grown ≡ length (midTurn b t (i - i₀) .joined)) × (area ≡ laid b area₀ at links (midTurn b t (i - i₀)))
 
 abbrev μ-loop : tie.MeasureT-loop
-μ-loop b n area₀ order firsts starts sorted counts t joined v at₀ end grown₀ area at grown = end - at
+μ-loop b at area₀ links t joined v i₀ end grown₀ area i grown = end - i
 
 -- the front of the turn, and where its links start and end
-is-front : (s : tie.After-wide Inv-loop μ-loop) → s .wide .result ≡ frontAt (s .before .before .before .before .args .b .now) (s .before .before .before .before .args .t)
-is-front s = s .wide .ensures ∙ front-is (s .before .before .before .before .pre .0) (s .before .before .before .before .pre .1)
+module _ (s : tie.After-word-at Inv-loop μ-loop) where
+  is-front : s .word-at .result ≡ frontAt (s .before .before .before .before .args .b .now) (s .before .before .before .before .args .t)
+  is-front =
+      let start = s .before .before .before .before in
+      s .word-at .ensures ∙ front-is (start .pre .0) (start .pre .1)
 
-module _ (s : tie.After-links-start2 Inv-loop μ-loop) where
-  is-from : s .before .before .links-start .result ≡ from (s .before .before .before .before .before .before .before .before .pre .0) (s .before .before .before .before .before .before .before .before .pre .1)
-  is-from = from-is (s .before .before .before .before .before .before .before .before .pre .0) (s .before .before .before .before .before .before .before .before .pre .1) (is-front (s .before .before .before .before)) (s .before .before .links-start .ensures)
+  is-known : s .word-at .result < s .before .before .before .before .args .at .sizes .nodes
+  is-known =
+      let start = s .before .before .before .before in
+      front-known (start .pre .0) (start .pre .1) is-front
 
-  is-to : s .links-start2 .result ≡ to (s .before .before .before .before .before .before .before .before .pre .0) (s .before .before .before .before .before .before .before .before .pre .1)
-  is-to = to-is (s .before .before .before .before .before .before .before .before .pre .0) (s .before .before .before .before .before .before .before .before .pre .1) (is-front (s .before .before .before .before)) (s .links-start2 .ensures)
+module _ (s : tie.After-targets-start2 Inv-loop μ-loop) where
+  is-from : s .before .before .targets-start .result ≡ from (s .before .before .before .before .before .before .before .before .pre .0) (s .before .before .before .before .before .before .before .before .pre .1)
+  is-from =
+      let front = s .before .before .before .before in
+      let start = front .before .before .before .before in
+      from-is (start .pre .0) (start .pre .1) (is-front front) (s .before .before .targets-start .ensures)
 
-bytes : (s : tie.At-loop Inv-loop μ-loop) → length (s .loop .area) * 2 < 2 ^ 63
-bytes s =
-    rw (as-long (s .before .before .before .before .before .before .before .before .before .pre .0) (s .before .before .before .before .before .before .before .before .before .pre .1) (is-from (s .before)) (is-to (s .before)) (s .loop .inv .0) (s .loop .inv .1) (s .loop .inv .3)) (s .before .before .before .before .before .before .before .before .before .good .1 .1 .0 .1)
+  is-to : s .targets-start2 .result ≡ to (s .before .before .before .before .before .before .before .before .pre .0) (s .before .before .before .before .before .before .before .before .pre .1)
+  is-to =
+      let front = s .before .before .before .before in
+      let start = front .before .before .before .before in
+      to-is (start .pre .0) (start .pre .1) (is-front front) (s .targets-start2 .ensures)
 
-at-link : (s : tie.In-loop Inv-loop μ-loop) → s .before .before .before .before .before .before .before .before .before .before .args .sorted + s .before .loop .at < length (s .before .loop .area)
-at-link s =
-    link-inside (s .before .before .before .before .before .before .before .before .before .before .pre .0) (s .before .before .before .before .before .before .before .before .before .before .pre .1) (is-from (s .before .before)) (is-to (s .before .before)) (s .before .loop .inv .0) (s .loop-test .taken) (s .before .loop .inv .3)
+word-at-requires : tie.Need-word-at-requires Inv-loop μ-loop
+word-at-requires c κs = front-inside (c .before .before .before .pre .0) (c .before .before .before .pre .1)
 
-add-wide : tie.Need-add-wide Inv-loop μ-loop
-add-wide c = omega (arith, front-inside (c .before .before .pre .0) (c .before .before .pre .1), c .before .before .good .1 .1 .0 .1)
+targets-start-requires : tie.Need-targets-start-requires Inv-loop μ-loop
+targets-start-requires c κs = (c .before .before .before .before .before .pre .0 .index .linked, omega (arith, is-known (c .before)))
 
-mul-wide : tie.Need-mul-wide Inv-loop μ-loop
-mul-wide c = omega (arith, front-inside (c .before .before .pre .0) (c .before .before .pre .1), c .before .before .good .1 .1 .0 .1)
+add-targets-start : tie.Need-add-targets-start Inv-loop μ-loop
+add-targets-start c = omega (arith, is-known (c .before .before .before), c .before .before .before .before .before .before .before .pre .0 .index .linked .read .few-nodes)
 
-slice-read-wide : tie.Need-slice-read-wide Inv-loop μ-loop
-slice-read-wide c = front-inside (c .before .before .before .pre .0) (c .before .before .before .pre .1)
-
-wide-requires : tie.Need-wide-requires Inv-loop μ-loop
-wide-requires c κs = tt
-
-links-start-requires : tie.Need-links-start-requires Inv-loop μ-loop
-links-start-requires c κs = spanned (c .before .before .before .before .before .pre .0) (c .before .before .before .before .before .pre .1) (is-front (c .before))
-
-add-links-start : tie.Need-add-links-start Inv-loop μ-loop
-add-links-start c = omega (arith, spanned-next (c .before .before .before .before .before .before .before .pre .0) (c .before .before .before .before .before .before .before .pre .1) (is-front (c .before .before .before)) .first-inside, c .before .before .before .before .before .before .before .good .1 .1 .0 .1)
-
-links-start-requires-2 : tie.Need-links-start-requires-2 Inv-loop μ-loop
-links-start-requires-2 c κs = spanned-next (c .before .before .before .before .before .before .before .pre .0) (c .before .before .before .before .before .before .before .pre .1) (is-front (c .before .before .before))
+targets-start-requires-2 : tie.Need-targets-start-requires-2 Inv-loop μ-loop
+targets-start-requires-2 c κs = (c .before .before .before .before .before .before .before .pre .0 .index .linked, omega (arith, is-known (c .before .before .before)))
 
 loop-holds : tie.Need-loop-holds Inv-loop μ-loop
-loop-holds c = (
-  search needs,
-  omega (arith, from-to (c .before .before .before .before .before .before .before .before .pre .0) (c .before .before .before .before .before .before .before .before .pre .1), is-from c, is-to c),
-  stands-count (c .before .before .before .before .before .before .before .before .pre .0) (c .before .before .before .before .before .before .before .before .pre .1) (c .before .before .links-start .result),
-  stands (c .before .before .before .before .before .before .before .before .pre .0) (c .before .before .before .before .before .before .before .before .pre .1) (c .before .before .links-start .result),
-)
+loop-holds c =
+    let start = c .before .before .before .before .before .before .before .before in (
+      search needs,
+      omega (arith, from-to (start .pre .0) (start .pre .1), is-from c, is-to c),
+      stands-count (start .pre .0) (start .pre .1) (c .before .before .targets-start .result),
+      stands (start .pre .0) (start .pre .1) (c .before .before .targets-start .result),
+    )
 
-add-wide-2 : tie.Need-add-wide-2 Inv-loop μ-loop
-add-wide-2 c = omega (arith, at-link c, bytes (c .before))
-
-mul-wide-2 : tie.Need-mul-wide-2 Inv-loop μ-loop
-mul-wide-2 c = omega (arith, at-link c, bytes (c .before))
-
-slice-read-wide-2 : tie.Need-slice-read-wide-2 Inv-loop μ-loop
-slice-read-wide-2 c = at-link (c .before)
-
-wide-requires-2 : tie.Need-wide-requires-2 Inv-loop μ-loop
-wide-requires-2 c κs = tt
-
-link-to-requires : tie.Need-link-to-requires Inv-loop μ-loop
-link-to-requires c κs =
-    has-link (c .before .before .before .before .before .before .before .before .before .before .before .before .before .pre .0) (c .before .before .before .before .before .before .before .before .before .before .before .before .before .pre .1) (is-from (c .before .before .before .before .before)) (is-to (c .before .before .before .before .before)) (c .before .before .before .before .loop .inv .0) (c .before .before .before .loop-test .taken)
-    (c .before .before .before .before .loop .inv .3) (c .before .wide2 .ensures)
+target-at-requires : tie.Need-target-at-requires Inv-loop μ-loop
+target-at-requires c κs =
+    let head = c .before .before in
+    let begun = head .before in
+    let start = begun .before .before .before .before .before .before .before .before in (
+      linked-on (start .pre .0) (start .pre .1) (is-from begun) (is-to begun) (head .loop .inv .0) (c .before .loop-test .taken) (head .loop .inv .3),
+      inside (start .pre .0) (start .pre .1) (is-from begun) (is-to begun) (head .loop .inv .0) (c .before .loop-test .taken) (head .loop .inv .3),
+    )
 
 follow-requires : tie.Need-follow-requires Inv-loop μ-loop
 follow-requires c κs =
-    ready (c .before .before .before .before .before .before .before .before .before .before .before .before .before .before .pre .0) (c .before .before .before .before .before .before .before .before .before .before .before .before .before .before .pre .1) (is-from (c .before .before .before .before .before .before)) (is-to (c .before .before .before .before .before .before)) (c .before .before .before .before .before .loop .inv .0) (c .before .before .before .before .loop-test .taken)
-    (c .before .before .before .before .before .loop .inv .3) (c .before .before .before .before .before .loop .inv .2) (c .before .before .wide2 .ensures) (c .link-to .ensures)
+    let head = c .before .before .before .before in
+    let begun = head .before in
+    let start = begun .before .before .before .before .before .before .before .before in
+    ready (start .pre .0) (start .pre .1) (is-from begun) (is-to begun) (head .loop .inv .0) (c .before .before .before .loop-test .taken)
+    (head .loop .inv .3) (head .loop .inv .2) (c .before .target-at .ensures)
 
-add-at : tie.Need-add-at Inv-loop μ-loop
-add-at c = omega arith
+add-i : tie.Need-add-i Inv-loop μ-loop
+add-i c = omega (arith, c .before .before .before .before .before .before .loop-test .taken)
 
 loop-less : tie.Need-loop-less Inv-loop μ-loop
-loop-less c = omega (arith, c .before .before .before .before .before .before .before .loop-test .taken)
+loop-less c = omega (arith, c .before .before .before .before .before .before .loop-test .taken)
 
 loop-again : tie.Need-loop-again Inv-loop μ-loop
-loop-again c = (
-  omega (arith, c .before .before .before .before .before .before .before .before .loop .inv .0),
-  omega (arith, c .before .before .before .before .before .before .before .loop-test .taken),
-  counted (c .before .before .before .before .before .before .before .before .before .before .before .before .before .before .before .before .before .pre .0) (c .before .before .before .before .before .before .before .before .before .before .before .before .before .before .before .before .before .pre .1) (is-from (c .before .before .before .before .before .before .before .before .before)) (is-to (c .before .before .before .before .before .before .before .before .before)) (c .before .before .before .before .before .before .before .before .loop .inv .0) (c .before .before .before .before .before .before .before .loop-test .taken)
-      (c .before .before .before .before .before .before .before .before .loop .inv .3) (c .before .before .before .before .before .before .before .before .loop .inv .2) (c .before .before .before .before .before .wide2 .ensures) (c .before .before .before .link-to .ensures) (c .before .before .follow .ensures .0),
-  followed-on (c .before .before .before .before .before .before .before .before .before .before .before .before .before .before .before .before .before .pre .0) (c .before .before .before .before .before .before .before .before .before .before .before .before .before .before .before .before .before .pre .1) (is-from (c .before .before .before .before .before .before .before .before .before)) (is-to (c .before .before .before .before .before .before .before .before .before)) (c .before .before .before .before .before .before .before .before .loop .inv .0) (c .before .before .before .before .before .before .before .loop-test .taken)
-      (c .before .before .before .before .before .before .before .before .loop .inv .3) (c .before .before .before .before .before .before .before .before .loop .inv .2) (c .before .before .before .before .before .wide2 .ensures) (c .before .before .before .link-to .ensures) (c .before .before .follow .ensures .1),
-)
+loop-again c =
+    let turning = c .before .before .before .before .before .before in
+    let head = turning .before in
+    let begun = head .before in
+    let start = begun .before .before .before .before .before .before .before .before in (
+      omega (arith, head .loop .inv .0),
+      omega (arith, turning .loop-test .taken),
+      counted (start .pre .0) (start .pre .1) (is-from begun) (is-to begun) (head .loop .inv .0) (turning .loop-test .taken) (head .loop .inv .3)
+          (head .loop .inv .2) (c .before .before .before .before .target-at .ensures) (c .before .before .follow .ensures .0),
+      followed-on (start .pre .0) (start .pre .1) (is-from begun) (is-to begun) (head .loop .inv .0) (turning .loop-test .taken) (head .loop .inv .3)
+          (head .loop .inv .2) (c .before .before .before .before .target-at .ensures) (c .before .before .follow .ensures .1),
+    )
 
 same-length : tie.Need-same-length Inv-loop μ-loop
 same-length c =
-    as-long (c .before .before .before .before .before .before .before .before .before .before .pre .0) (c .before .before .before .before .before .before .before .before .before .before .pre .1) (is-from (c .before .before)) (is-to (c .before .before)) (c .before .loop .inv .0) (c .before .loop .inv .1) (c .before .loop .inv .3)
-
-done : (s : tie.After-loop Inv-loop μ-loop)
-    → midTurn (s .before .before .before .before .before .before .before .before .before .before .args .b .now) (s .before .before .before .before .before .before .before .before .before .before .args .t) (s .before .loop .at - s .before .before .before .before .links-start .result) ≡ queueAfter (s .before .before .before .before .before .before .before .before .before .before .args .b .now) (s .before .before .before .before .before .before .before .before .before .before .args .t + 1)
-done s =
-    turned (s .before .before .before .before .before .before .before .before .before .before .pre .0) (s .before .before .before .before .before .before .before .before .before .before .pre .1) (is-from (s .before .before)) (is-to (s .before .before)) (s .before .loop .inv .0) (s .before .loop .inv .1) (s .loop-test .left)
+    let begun = c .before .before in
+    let start = begun .before .before .before .before .before .before .before .before in
+    as-long (start .pre .0) (start .pre .1) (is-from begun) (is-to begun) (c .before .loop .inv .0) (c .before .loop .inv .1) (c .before .loop .inv .3)
 
 returns : tie.Need-returns Inv-loop μ-loop
-returns c = (
-  c .before .loop .inv .2 ∙ ap (λ (q : Queue). length (q .joined)) (done c),
-  c .before .loop .inv .3 ∙ ap (laid (c .before .before .before .before .before .before .before .before .before .before .args .b .now) (c .before .before .before .before .before .before .before .before .before .before .args .area .now) (c .before .before .before .before .before .before .before .before .before .before .args .n) (c .before .before .before .before .before .before .before .before .before .before .args .order) (c .before .before .before .before .before .before .before .before .before .before .args .counts)) (done c),
-)
+returns c =
+    let begun = c .before .before in
+    let start = begun .before .before .before .before .before .before .before .before in
+    let done = turned (start .pre .0) (start .pre .1) (is-from begun) (is-to begun) (c .before .loop .inv .0) (c .before .loop .inv .1) (c .loop-test .left) in (
+      c .before .loop .inv .2 ∙ ap (λ (q : Queue). length (q .joined)) done,
+      c .before .loop .inv .3 ∙ ap (laid (start .args .b .now) (start .args .area .now) (start .args .at) (start .args .links)) done,
+    )
 
 pub turn-spec : {M : Type 1} → statement M
 turn-spec =
@@ -146,21 +141,14 @@ turn-spec =
     (tie.spec
     Inv-loop
     μ-loop
-    add-wide
-    mul-wide
-    slice-read-wide
-    wide-requires
-    links-start-requires
-    add-links-start
-    links-start-requires-2
+    word-at-requires
+    targets-start-requires
+    add-targets-start
+    targets-start-requires-2
     loop-holds
-    add-wide-2
-    mul-wide-2
-    slice-read-wide-2
-    wide-requires-2
-    link-to-requires
+    target-at-requires
     follow-requires
-    add-at
+    add-i
     loop-less
     loop-again
     same-length

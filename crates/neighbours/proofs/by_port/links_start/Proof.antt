@@ -1,11 +1,11 @@
--- `toposort::turns::links_start` meets its contract: two reads, the second at the place that the first gives.
+-- `neighbours::by_port::links_start` meets its contract: two reads, the second at the place that the first gives.
 -- Rests on nothing.
 use Prim.Native.Nat.{ℕ, _+_}
 use borrow.Author.Needs.{needs}
 use mathlib.Core.Path.{ap, _∙_}
 use lib.ListN.{getD}
-use Rattle.toposort.proofs.turns.links_start.Statement.{statement}
-use Rattle.toposort.proofs.turns.links_start.Tie as tie
+use Rattle.neighbours.proofs.by_port.links_start.Statement.{statement}
+use Rattle.neighbours.proofs.by_port.links_start.Tie as tie
 
 returns : tie.Need-returns
 returns c =

@@ -8,8 +8,9 @@ use borrow.Author.Tests.{lt-ltb, le-ltb}
 use lib.Seq.{sets}
 use Rattle.lists.specs.Found.{placed}
 use Rattle.paper.specs.Refusals.{Ruling, passed, refusal, refuse, rule11, decide, Answer, answer, answered, refused, onRefusal}
-use Rattle.tables.specs.AnsweredBy.{AnsweredInto}
-use Rattle.tables.specs.UsableBy.{Scratched}
+use Rattle.tables.specs.declared.Layout.{Layout}
+use Rattle.tables.specs.Answered.{AnsweredInto}
+use Rattle.tables.specs.Usable.{Scratched}
 
 -- an answer and a buffer by the rules
 pub record Into {A : Type 0} (answers : Answer A) (rules : List Ruling) (x : A) (buffer after result : List ℕ) : Type 0 where
@@ -36,6 +37,6 @@ module _ {A : Type 0} (rules : List Ruling) (x : A) (buffer result : List ℕ) w
   into-passed e f =
       record { says = ap (λ (u : Ruling). answer u x) e; written = f ∙ ap (λ (u : Ruling). onRefusal u buffer (sets buffer 0 result)) e }
 
-pub into-answered : {n l p : ℕ} {a m : List ℕ} {A : Type 0} {answers : Answer A} {rules : List Ruling} {x : A} {buffer after result : List ℕ}
-    → Scratched n l p a m → Into answers rules x buffer after result → AnsweredInto n l p a m answers rules x buffer after result
+pub into-answered : {at : Layout} {a m : List ℕ} {A : Type 0} {answers : Answer A} {rules : List Ruling} {x : A} {buffer after result : List ℕ}
+    → Scratched at a m → Into answers rules x buffer after result → AnsweredInto at a m answers rules x buffer after result
 into-answered kept into = record { says = into .says; kept = kept; written = into .written }
