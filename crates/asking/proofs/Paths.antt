@@ -46,6 +46,7 @@ module _ (buffer : List ℕ) (found : Path) (fits : length (stepsOf found) ≤ l
 module _ (b a list buffer : List ℕ) (fits : length (stepsOf (backPath b list)) ≤ length buffer) where
   never-11 : decide (opening b a ++ (lineRules b list ++ (rule11 (length buffer) (length (stepsOf (backPath b list))) ∷ [])))
       ≡ decide (opening b a ++ lineRules b list)
+  unfolding decide
   never-11 =
       ap decide (sym (append-assoc (opening b a) (lineRules b list) (rule11 (length buffer) (length (stepsOf (backPath b list))) ∷ [])))
       ∙ passing-last (opening b a ++ lineRules b list) (rule11 (length buffer) (length (stepsOf (backPath b list))) ∷ [])
