@@ -1,7 +1,3 @@
 pub mod Enough
-pub mod InRoom
-pub mod FewFound
+pub mod Reading
 pub mod Crossed
-pub mod PutBack
-pub mod Extends
-pub mod NodesBack

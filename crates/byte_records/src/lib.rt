@@ -16,9 +16,11 @@ ghost use Rattle.answers.specs.Said.{extendSaid, lineSaid, nodesSaid};
 use answers::ExtendAnswer;
 use answers::LineAnswer;
 use answers::NodesAnswer;
-use line_checker::extend::extend_records;
+use line_checker::extend::find_extended;
 use line_checker::line_check::check_by_records;
-use line_checker::nodes::nodes_of_records;
+use line_checker::nodes::find_nodes;
+use line_checker::room::node_room;
+use line_checker::room::record_room;
 use refusals::Refusal;
 use tables::Layout;
 use words::bytes::put_words;
@@ -29,13 +31,6 @@ fn wide_room() -> [u16; 7683]
     ensures { λ r. ⌜ length r ≡ 7683 ⌝ }
 {
     [0u16; 7683]
-}
-
-// Room for the nodes of the largest map.
-fn node_words() -> [u16; 512]
-    ensures { λ r. ⌜ length r ≡ 512 ⌝ }
-{
-    [0u16; 512]
 }
 
 // The smaller of two numbers.
@@ -81,9 +76,9 @@ pub fn check_by_records_bytes(
     if whole < count {
         return LineAnswer::Refused(Refusal::BadRecord(whole));
     }
-    let mut room = wide_room();
-    let read = read_records(records, count, &mut room);
-    check_by_records(b, at, area, &room, read)
+    let mut words = wide_room();
+    let read = read_records(records, count, &mut words);
+    check_by_records(b, at, area, &words, read)
 }
 
 // Extends records in bytes by a node, in their own buffer: refusals 9, 12, 13, then 11.
@@ -112,15 +107,18 @@ pub fn extend_records_bytes(
     if whole < count {
         return ExtendAnswer::Refused(Refusal::BadRecord(whole));
     }
-    let mut room = wide_room();
-    let read = read_records(records, count, &mut room);
-    let fit = at_most(whole, 2561);
-    let extended = extend_records(b, at, area, &mut room[0..3 * fit], read, node);
-    let ExtendAnswer::Records(made) = extended else {
-        return extended;
+    let mut words = wide_room();
+    let read = read_records(records, count, &mut words);
+    let mut room = record_room();
+    let found = find_extended(b, at, area, &words, read, node, &mut room);
+    let ExtendAnswer::Records(made) = found else {
+        return found;
     };
+    if whole < made {
+        return ExtendAnswer::Refused(Refusal::TooLong(made));
+    }
     put_words(&room[0..3 * made], records);
-    extended
+    found
 }
 
 // The nodes in records in bytes, by position, then number, into a buffer of bytes: refusals 12, 13, 11.
@@ -146,14 +144,16 @@ pub fn nodes_of_records_bytes(
     if whole < count {
         return NodesAnswer::Refused(Refusal::BadRecord(whole));
     }
-    let mut room = wide_room();
-    let read = read_records(records, count, &mut room);
-    let mut nodes = node_words();
-    let fit = at_most(buffer.len() / 2, 512);
-    let found = nodes_of_records(b, at, area, &room, read, &mut nodes[0..fit]);
+    let mut words = wide_room();
+    let read = read_records(records, count, &mut words);
+    let mut room = node_room();
+    let found = find_nodes(b, at, area, &words, read, &mut room);
     let NodesAnswer::Nodes(made) = found else {
         return found;
     };
-    put_words(&nodes[0..made], buffer);
+    if buffer.len() / 2 < made {
+        return NodesAnswer::Refused(Refusal::TooLong(made));
+    }
+    put_words(&room[0..made], buffer);
     found
 }

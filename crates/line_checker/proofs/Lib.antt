@@ -1,8 +1,8 @@
-pub mod ByPlaces
 pub mod Records
+pub mod Out
+pub mod FromList
 pub mod LineCheck
-pub mod Into
+pub mod IntervalsFound
 pub mod RecordCalls
 pub mod NodesFound
-pub mod IntervalsFound
 pub mod ExtendFound

@@ -1,77 +1,54 @@
--- Nodes in records put together: they go into the buffer if they fit, and the two areas of the question hold the same tables.
--- Rests on Into, RecordCalls and accepted_theory.
-use Prim.Native.Nat.{ℕ, _≤_, _<_}
+-- Nodes in records put together: 12 and 13 refuse, or they stand in the room, and the two areas of the question hold the same tables.
+-- Rests on Out, RecordCalls and accepted_theory.
+use Prim.Native.Nat.{ℕ}
 use native.Mathlib.Omega.{arith}
 use mathlib.Core.Path.{_≡_, sym, ap, _∙_, subst}
 use mathlib.Core.List.{List, [], _∷_}
+use types.Run.{OneOf, miss}
+use denote.Enum.Declared.{tagOf}
 use lib.ListN.{length, take}
-use lib.Seq.{sets}
 use Rattle.paper.specs.Records.{nodesIn, recordsIn}
-use Rattle.paper.specs.Refusals.{Ruling, passed, Answer, answered, refused, decide, rule11, rule12, rule13}
+use Rattle.paper.specs.Refusals.{Ruling, passed, answer, answered, rule12, rule13}
 use Rattle.accepted_theory.proofs.Records.{nodesIn-same}
+use Rattle.answers.specs.Said.{nodesSaid}
+use Rattle.answers.specs.declared.NodesAnswer.{NodesAnswer}
+use Rattle.answers.specs.declared.NodesAnswer.the-variants as Asked
+use Rattle.answers.proofs.NodesAnswer.{the-type}
+use Rattle.refusals.specs.Said.{ruled, refusedBy}
+use Rattle.refusals.specs.declared.Refusal.{Refusal}
 use Rattle.nodes_in.specs.Collected.{FoundIn}
 use Rattle.records.specs.Tested.{Tested, checkedSaid}
 use Rattle.records.specs.declared.Checked.{Checked}
+use Rattle.records.specs.declared.layout.LineSlots.{LineSlots}
 use Rattle.tables.specs.declared.Layout.{Layout}
-use Rattle.tables.specs.Answered.{AnsweredInto}
 use Rattle.tables.specs.Usable.{Usable}
-use Rattle.tables.proofs.Bridge.{scratched-at}
-use Rattle.tables.proofs.Within.{within-none}
 use Rattle.tables.proofs.Usable.{tables-still}
-use Rattle.intervals.proofs.Into.{Into, into-refused, into-passed, too-long, short-enough}
-use Rattle.line_checker.proofs.ByPlaces.{into-answered}
-use Rattle.line_checker.proofs.Records.{begun-long}
-use Rattle.line_checker.proofs.RecordCalls.{into-after, records-passed-both}
+use Rattle.line_checker.specs.InRoom.{InRoom, itself}
+use Rattle.line_checker.proofs.Out.{refused-in}
+use Rattle.line_checker.proofs.RecordCalls.{records-passed-both}
 
--- 11 of some nodes and a buffer
-abbrev Rules : List ℕ → List ℕ → List Ruling
-Rules buffer nodes = rule11 (length buffer) (length nodes) ∷ []
+module _ {b a : List ℕ} {at : Layout} (usable : Usable b a at) {slots : LineSlots} {words : List ℕ} {count : ℕ} {r : Checked} {m : List ℕ}
+    (tested : Tested b a at slots words count r m) where
+  pub nodes-refused : (x : Refusal) → ruled x ≡ checkedSaid r → (room : List ℕ)
+      → InRoom length itself at a m (refusedBy x) (rule12 b a words count ∷ rule13 b a (recordsIn words count) ∷ []) (nodesIn b a (recordsIn words count)) room
+  nodes-refused x e room = refused-in (tested .kept) (e ∙ tested .said) (nodesIn b a (recordsIn words count)) room
 
-pub nodes-inside : {b a words : List ℕ} {count : ℕ} {room : List ℕ} {r : ℕ} {o : List ℕ} → FoundIn b a words count room r o → r ≤ length o
-nodes-inside {r = r} {o} got =
-    omega (arith, begun-long o _ (ap (λ (k : ℕ). take k o) (sym (got .number)) ∙ got .nodes), got .number)
+  pub nodes-found : checkedSaid r ≡ passed → {room : List ℕ} {made : ℕ} {o : List ℕ} → FoundIn b m words count room made o
+      → InRoom length itself at a m (answered made) (rule12 b a words count ∷ rule13 b a (recordsIn words count) ∷ []) (nodesIn b a (recordsIn words count)) o
+  unfolding answer
+  nodes-found good {o = o} got =
+      record {
+        says =
+            ap answered (got .number ∙ ap length same)
+            ∙ ap (λ (u : Ruling). answer u (length (nodesIn b a (recordsIn words count)))) (records-passed-both usable tested good);
+        kept = tested .kept;
+        written = λ fine. subst (λ (ns : List ℕ). take (length ns) o ≡ ns) same (ap (λ (k : ℕ). take k o) (sym (got .number)) ∙ got .nodes);
+      }
+    where
+      same : nodesIn b m (recordsIn words count) ≡ nodesIn b a (recordsIn words count)
+      same = sym (nodesIn-same (tables-still usable (tested .kept)) (recordsIn words count))
 
-module _ (at : Layout) {b a words : List ℕ} {count : ℕ} {room : List ℕ} {r : ℕ} {o : List ℕ} (got : FoundIn b a words count room r o) (buffer : List ℕ) where
-  found : List ℕ
-  found = nodesIn b a (recordsIn words count)
-
-  pub nodes-long : length buffer < r → AnsweredInto at a a (refused 11 r) (Rules buffer (nodesIn b a (recordsIn words count)))
-      (length (nodesIn b a (recordsIn words count))) buffer buffer (nodesIn b a (recordsIn words count))
-  unfolding found
-  nodes-long h =
-      into-answered within-none (
-      into-refused (Rules buffer found) (length found) buffer found
-      (too-long (length buffer) r h ∙ ap (λ (k : ℕ). decide (rule11 (length buffer) k ∷ [])) (got .number))
-      )
-
-  pub nodes-fit : r ≤ length buffer → {after : List ℕ} → after ≡ sets buffer 0 (take r o)
-      → AnsweredInto at a a (answered r) (Rules buffer (nodesIn b a (recordsIn words count))) (length (nodesIn b a (recordsIn words count)))
-      buffer
-      after
-      (nodesIn b a (recordsIn words count))
-  unfolding found
-  nodes-fit h {after} e =
-      into-answered within-none (
-      subst (λ (k : ℕ). Into (answered k) (Rules buffer found) (length found) buffer after found) (sym (got .number))
-      (into-passed (Rules buffer found) (length found) buffer found
-      (short-enough (length buffer) r h ∙ ap (λ (k : ℕ). decide (rule11 (length buffer) k ∷ [])) (got .number))
-      (e ∙ ap (sets buffer 0) (got .nodes)))
-      )
-
--- ---- on the area after the test of the records
-
-module _ {b a : List ℕ} {at : Layout} (usable : Usable b a at) {words : List ℕ} {count : ℕ} {r : Checked} {m : List ℕ}
-    (tested : Tested b a (at .sizes .nodes) (at .sizes .links) (at .sizes .ports) words count r m) (good : checkedSaid r ≡ passed) where
-  pub nodes-answered : {x : Answer ℕ} {buffer after : List ℕ}
-      → AnsweredInto at m m x (Rules buffer (nodesIn b m (recordsIn words count))) (length (nodesIn b m (recordsIn words count))) buffer after
-      (nodesIn b m (recordsIn words count))
-      → AnsweredInto at a m x (rule12 b a words count ∷ rule13 b a (recordsIn words count) ∷ Rules buffer (nodesIn b a (recordsIn words count)))
-      (length (nodesIn b a (recordsIn words count))) buffer after (nodesIn b a (recordsIn words count))
-  nodes-answered {x} {buffer} {after} got =
-      into-answered (scratched-at usable (tested .kept)) (
-      into-after (rule12 b a words count ∷ rule13 b a (recordsIn words count) ∷ []) (records-passed-both usable tested good)
-      (Rules buffer (nodesIn b a (recordsIn words count))) (length (nodesIn b a (recordsIn words count)))
-      (subst (λ (ns : List ℕ). Into x (Rules buffer ns) (length ns) buffer after ns)
-      (sym (nodesIn-same (tables-still usable (scratched-at usable (tested .kept))) (recordsIn words count)))
-      (record { says = got .says; written = got .written }))
-      )
+-- an answer that is not of nodes
+pub not-nodes : (r : NodesAnswer) → OneOf (1 ∷ []) (tagOf the-type r) → (k : ℕ) → nodesSaid r ≡ answered k → ⊥
+not-nodes (Asked.Nodes n) h k e = miss (1 ∷ []) 0 tt h
+not-nodes (Asked.Refused x) h k e = let z : _≡_ {A = ℕ} 0 1 = cc in omega arith

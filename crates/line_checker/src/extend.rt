@@ -1,16 +1,15 @@
 // Translated from src/algorithms/convex/line_convex_checker.rs of portgraph (88172a3c8e, Apache-2.0, see NOTICE), and changed:
 // `try_extend_intervals` refuses what 01 refuses, and works in a room of its own, so that no backup is put back.
 ghost use mathlib.Core.List.{[], _∷_};
-ghost use Prim.Native.Nat.{_+_, _*_, _<_};
-ghost use Rattle.paper.specs.Area.{K};
+ghost use Prim.Native.Nat.{_+_, _*_, _≤_};
+ghost use lib.ListN.{length};
 ghost use Rattle.paper.specs.Calls.{needed, said, wordsOf};
 ghost use Rattle.paper.specs.Records.{extend as extended, recordsIn};
 ghost use Rattle.paper.specs.Refusals.{rule9, rule11, rule12, rule13, wholeRecords};
-ghost use Rattle.tables.specs.Recorded.{Recorded, Slotted};
-ghost use Rattle.tables.specs.Usable.{Usable};
-ghost use Rattle.tables.specs.UsableBy.{scratchAt};
-ghost use Rattle.tables.specs.Answered.{AnsweredInto};
 ghost use Rattle.answers.specs.Said.{extendSaid};
+ghost use Rattle.tables.specs.Answered.{AnsweredInto};
+ghost use Rattle.tables.specs.Usable.{Usable};
+ghost use Rattle.line_checker.specs.InRoom.{InRoom};
 use super::room::copy_out;
 use super::room::record_room;
 use answers::ExtendAnswer;
@@ -18,49 +17,40 @@ use extension::Extended;
 use extension::extend;
 use records::Checked;
 use records::check_records;
+use records::layout::lay_slots;
 use records::record_refusal;
 use refusals::Refusal;
 use tables::Layout;
 
-// Extends records that may be used by a known node: 11 if the records then do not fit their buffer.
-fn write_extended(
+// Extends records by a node, in a room: refusals 9, 12, 13.
+pub fn find_extended(
     b: &[u8],
     at: Layout,
-    area: &[u16],
-    records: &mut [u16],
+    area: &mut [u16],
+    records: &[u16],
     count: usize,
     node: usize,
+    room: &mut [u16],
 ) -> ExtendAnswer
     requires { ⌜ Usable (now b) (now area) at ⌝ }
-    requires { ⌜ Recorded (now b) (now area) (now records) count ⌝ }
-    requires { ⌜ Slotted (now area) (now records) count (scratchAt (at .sizes .nodes) (at .sizes .links)) (scratchAt (at .sizes .nodes) (at .sizes .links) + (at .sizes .nodes + at .sizes .links)) (K (now b) (now area)) ⌝ }
-    requires { ⌜ node < at .sizes .nodes ⌝ }
-    ensures { λ r. ⌜ AnsweredInto at (now (area .entry)) (now (area .entry)) (extendSaid r)
-        (rule11 (wholeRecords (now (records .entry)))
-        (needed (extended (now (b .entry)) (now (area .entry)) (recordsIn (now (records .entry)) count) node)) ∷ [])
-        (said (extended (now (b .entry)) (now (area .entry)) (recordsIn (now (records .entry)) count) node))
-        (now (records .entry)) (now (records .exit))
-        (wordsOf (extended (now (b .entry)) (now (area .entry)) (recordsIn (now (records .entry)) count) node)) ⌝ }
+    requires { ⌜ 3 * (at .sizes .nodes + at .sizes .links) ≤ length (now room) ⌝ }
+    ensures { λ r. ⌜ InRoom said wordsOf at (now (area .entry)) (now (area .exit)) (extendSaid r)
+        (rule9 (now (b .entry)) (node ∷ []) ∷ rule12 (now (b .entry)) (now (area .entry)) (now (records .entry)) count
+        ∷ rule13 (now (b .entry)) (now (area .entry)) (recordsIn (now (records .entry)) count) ∷ [])
+        (extended (now (b .entry)) (now (area .entry)) (recordsIn (now (records .entry)) count) node) (now (room .exit)) ⌝ }
 {
-    let mut room = record_room();
-    let found = extend(
-        b,
-        at.sizes.nodes,
-        at.sizes.links,
-        at.sizes.ports,
-        area,
-        records,
-        count,
-        node,
-        &mut room,
-    );
+    if at.sizes.nodes <= node {
+        return ExtendAnswer::Refused(Refusal::Unknown(0));
+    }
+    let slots = lay_slots(at);
+    let checked = check_records(b, at, area, slots, records, count);
+    let Checked::Good = checked else {
+        return ExtendAnswer::Refused(record_refusal(checked));
+    };
+    let found = extend(b, at, area, slots, records, count, node, room);
     let Extended::Records(made) = found else {
         return ExtendAnswer::NotExtendable;
     };
-    if records.len() / 3 < made {
-        return ExtendAnswer::Refused(Refusal::TooLong(made));
-    }
-    copy_out(&room, records, 3 * made);
     ExtendAnswer::Records(made)
 }
 
@@ -83,20 +73,14 @@ pub fn extend_records(
         (now (records .entry)) (now (records .exit))
         (wordsOf (extended (now (b .entry)) (now (area .entry)) (recordsIn (now (records .entry)) count) node)) ⌝ }
 {
-    if at.sizes.nodes <= node {
-        return ExtendAnswer::Refused(Refusal::Unknown(0));
-    }
-    let checked = check_records(
-        b,
-        at.sizes.nodes,
-        at.sizes.links,
-        at.sizes.ports,
-        area,
-        records,
-        count,
-    );
-    let Checked::Good = checked else {
-        return ExtendAnswer::Refused(record_refusal(checked));
+    let mut room = record_room();
+    let found = find_extended(b, at, area, records, count, node, &mut room);
+    let ExtendAnswer::Records(made) = found else {
+        return found;
     };
-    write_extended(b, at, area, records, count, node)
+    if records.len() / 3 < made {
+        return ExtendAnswer::Refused(Refusal::TooLong(made));
+    }
+    copy_out(&room, records, 3 * made);
+    found
 }

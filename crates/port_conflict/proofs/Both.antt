@@ -1,20 +1,18 @@
 -- Both lists of ports marked: 14 for the inputs, and where they are all known for the outputs.
 -- Rests on Written and tables' Within.
-use Prim.Native.Nat.{ℕ, _+_, _<_}
+use Prim.Native.Nat.{ℕ}
 use native.Mathlib.Omega.{arith}
 use mathlib.Core.Path.{_≡_, refl, sym, ap, _∙_}
 use mathlib.Core.Logic.{inl}
 use mathlib.Core.Bool.{Bool, false}
 use mathlib.Core.List.{List, [], _∷_}
-use Rattle.lists.specs.Lists.{member}
 use Rattle.paper.specs.Refusals.{Ruling, passed, refusal, Answer, answered, answer, decide}
 use Rattle.tables.specs.declared.Layout.{Layout}
 use Rattle.tables.specs.Placed.{scratchSize}
 use Rattle.tables.specs.Usable.{Scratched}
-use Rattle.tables.specs.Within.{Within}
 use Rattle.tables.proofs.Within.{within-both, within-wider}
 use Rattle.port_conflict.specs.declared.room.PortRoom.{PortRoom}
-use Rattle.port_conflict.specs.Marks.{marked, unknownPort, ListMarked, ListsMarked}
+use Rattle.port_conflict.specs.Marks.{unknownPort, ListMarked, ListsMarked}
 use Rattle.port_conflict.specs.Room.{Fits}
 use Rattle.port_conflict.proofs.Written.{marked-outside}
 

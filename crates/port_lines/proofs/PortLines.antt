@@ -1,6 +1,6 @@
 -- A port's first line and its number of lines by the links at its node's ports of its direction; and where its lines stand in the area.
 -- Rests on Among, stepmap's PortNumbers, tables' Words and accepted_theory's Ports (a port's lines are within its node's list).
-use Prim.Native.Nat.{ℕ, _+_, _*_, _-_, _≤_, _<_}
+use Prim.Native.Nat.{ℕ, _+_, _-_, _≤_, _<_}
 use native.Mathlib.Omega.{arith}
 use mathlib.Core.Path.{_≡_, refl, sym, ap, ap₂, _∙_}
 use mathlib.Core.Bool.{Bool, true, false}

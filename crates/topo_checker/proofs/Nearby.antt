@@ -21,7 +21,7 @@ use Rattle.tables.proofs.Within.{within-none, within-set, within-wider}
 use Rattle.topo_checker.specs.Near.{placeReached, isListed, isOther, leadsOut, OthersMarked}
 use Rattle.topo_checker.specs.Room.{marksSize, Laid}
 use Rattle.topo_checker.specs.declared.layout.OrderRoom.{OrderRoom}
-use Rattle.topo_checker.proofs.Laying.{scratch-inside, laid-still}
+use Rattle.topo_checker.proofs.Laying.{laid-still}
 use Rattle.topo_checker.proofs.Neighbours.{target-low, reached-low}
 
 -- ---- one place

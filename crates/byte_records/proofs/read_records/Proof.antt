@@ -1,6 +1,6 @@
 -- `byte_records::read_records` meets its contract: the words of the first bytes are the first words.
--- Rests on InRoom.
-use Rattle.byte_records.proofs.InRoom.{read-first}
+-- Rests on Reading.
+use Rattle.byte_records.proofs.Reading.{read-first}
 use borrow.Author.Needs.{needs}
 use Rattle.byte_records.proofs.read_records.Statement.{statement}
 use Rattle.byte_records.proofs.read_records.Tie as tie

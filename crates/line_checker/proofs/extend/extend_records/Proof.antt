@@ -1,60 +1,52 @@
--- `line_checker::extend::extend_records` meets its contract: 9, 12 and 13 on the area, then the extension on the area after the test.
--- Rests on ExtendFound and RecordCalls.
+-- `line_checker::extend::extend_records` meets its contract: the records extended go from the room into their buffer.
+-- Rests on ExtendFound and Out.
+use native.Mathlib.Omega.{arith}
 use mathlib.Core.Path.{ap}
-use Rattle.records.specs.Tested.{checkedSaid}
-use Rattle.tables.proofs.Bridge.{by-numbers, scratched-at}
-use Rattle.tables.proofs.Usable.{still-usable}
-use Rattle.line_checker.proofs.ExtendFound.{node-unknown, extend-refused, extend-answered}
-use Rattle.line_checker.proofs.RecordCalls.{is-bad, recorded-still, slotted-still}
+use Rattle.answers.specs.Said.{extendSaid}
+use Rattle.line_checker.proofs.ExtendFound.{not-made}
+use Rattle.line_checker.proofs.Out.{no-records, records-inside, records-long, records-fit}
 use borrow.Author.Needs.{needs}
 use Rattle.line_checker.proofs.extend.extend_records.Statement.{statement}
 use Rattle.line_checker.proofs.extend.extend_records.Tie as tie
 
+find-extended-requires : tie.Need-find-extended-requires
+find-extended-requires c κs =
+    let roomed = c .before .before .before in
+    let start = roomed .before .before .before .before in
+    (start .pre, omega (arith, roomed .record-room .ensures, start .pre .read .few-nodes, start .pre .read .few-links))
+
 returns : tie.Need-returns
 returns c =
-    let start = c .before .before .before .before .before in
-    node-unknown (start .pre) (start .args .node) (start .args .records .now) (start .args .count) (c .if1 .taken)
-
-check-records-requires : tie.Need-check-records-requires
-check-records-requires c κs = by-numbers (c .before .before .before .before .before .before .before .pre)
-
-record-refusal-requires : tie.Need-record-refusal-requires
-record-refusal-requires c κs = is-bad (c .enum-told2 .given .1)
+    let finding = c .before .before .before .before in
+    let start = finding .before .before .before .before .before .before .before .before in
+    no-records (finding .find-extended .ensures) (start .args .records .now) (not-made (finding .find-extended .result) (c .match .keys2))
 
 returns-2 : tie.Need-returns-2
 returns-2 c =
-    let tested = c .before .before .before .before .before in
-    let asked = tested .before .before .before in
-    let start = asked .before .before .before .before .before in
-    extend-refused (start .pre) (tested .check-records .ensures) (asked .if1 .left) (c .record-refusal .result) (c .record-refusal .ensures)
-    (is-bad (c .before .enum-told2 .given .1))
-
-write-extended-requires : tie.Need-write-extended-requires
-write-extended-requires c κs =
     let told = c .before .before in
-    let tested = told .before .before .before .before in
-    let asked = tested .before .before .before in
-    let start = asked .before .before .before .before .before in
-    let good = ap checkedSaid (told .enum-told .given .1) in (
-      still-usable (start .pre) (scratched-at (start .pre) (tested .check-records .ensures .kept)),
-      (
-        recorded-still (start .pre) (tested .check-records .ensures) good,
-        (slotted-still (start .pre) (tested .check-records .ensures) good, asked .if1 .left),
-      ),
-    )
+    let finding = told .before .before .before .before .before in
+    let start = finding .before .before .before .before .before .before .before .before in
+    records-long (finding .find-extended .ensures) (start .args .records .now) (ap extendSaid (told .found .given .1)) (c .if1 .taken)
+
+copy-out-requires : tie.Need-copy-out-requires
+copy-out-requires c κs =
+    let told = c .before .before .before .before in
+    let finding = told .before .before .before .before .before in
+    let start = finding .before .before .before .before .before .before .before .before in
+    (records-inside (finding .find-extended .ensures) (start .args .records .now) (ap extendSaid (told .found .given .1)), search needs)
 
 returns-3 : tie.Need-returns-3
 returns-3 c =
-    let written = c .before .before in
-    let told = written .before .before .before in
-    let tested = told .before .before .before .before in
-    let asked = tested .before .before .before in
-    let start = asked .before .before .before .before .before in
-    extend-answered (start .pre) (tested .check-records .ensures) (asked .if1 .left) (ap checkedSaid (told .enum-told .given .1)) (written .write-extended .ensures)
+    let copied = c .before .before in
+    let asked = copied .before .before .before in
+    let told = asked .before .before in
+    let finding = told .before .before .before .before .before in
+    let start = finding .before .before .before .before .before .before .before .before in
+    records-fit (finding .find-extended .ensures) (start .args .records .now) (ap extendSaid (told .found .given .1)) (asked .if1 .left) (copied .copy-out .ensures)
 
 pub extend-records-spec : {M : Type 1} → statement M
 extend-records-spec =
     tie.close
     (tie.spec
-    returns check-records-requires (search needs) (search needs) record-refusal-requires (search needs) (search needs) returns-2
-    write-extended-requires (search needs) (search needs) returns-3)
+    (λ c κs. search needs) (search needs) find-extended-requires (search needs) (search needs) (search needs) returns (search needs)
+    (search needs) returns-2 (search needs) (search needs) copy-out-requires (search needs) (search needs) returns-3)

@@ -1,42 +1,27 @@
--- `line_checker::line_check::check_list` meets its contract: 8, 9 and 10 from taking the list in, then the check of its nodes.
--- Rests on LineCheck and intervals' Taken.
+-- `line_checker::line_check::check_list` meets its contract: the list is taken in from words, and then checked.
+-- Rests on LineCheck and FromList.
 use Rattle.tables.proofs.Usable.{still-usable}
-use Rattle.intervals.proofs.Taken.{not-taken, all-taken}
-use Rattle.line_checker.proofs.ByPlaces.{taken-kept, taken-by, list-refused, listed}
+use Rattle.line_checker.proofs.FromList.{list-kept, stands-taken}
 use Rattle.line_checker.proofs.LineCheck.{list-checked}
 use borrow.Author.Needs.{needs}
 use Rattle.line_checker.proofs.line_check.check_list.Statement.{statement}
 use Rattle.line_checker.proofs.line_check.check_list.Tie as tie
 
-list-refusal-requires : tie.Need-list-refusal-requires
-list-refusal-requires c κs = not-taken (c .enum-told .given .1)
+check-taken-requires : tie.Need-check-taken-requires
+check-taken-requires c κs =
+    let taking = c .before .before .before in
+    let start = taking .before .before .before .before .before in
+    (still-usable (start .pre) (list-kept (start .pre) (taking .take-in .ensures)), stands-taken (start .pre) (taking .take-in .ensures))
 
 returns : tie.Need-returns
 returns c =
-    let taking = c .before .before .before .before .before in
-    let start = taking .before .before .before .before .before in
-    list-refused (start .pre) (taking .take-in .ensures) (c .list-refusal .result) (c .list-refusal .ensures) _
-
-check-listed-requires : tie.Need-check-listed-requires
-check-listed-requires c κs =
-    let told = c .before in
-    let taking = told .before .before .before .before .before in
-    let start = taking .before .before .before .before .before in
-    let kept = taken-kept (start .pre) (taking .take-in .ensures .kept) in
-    (still-usable (start .pre) kept, listed (start .pre) (all-taken (taken-by (start .pre) (taking .take-in .ensures)) (told .before .taken .given .1)) kept)
-
-returns-2 : tie.Need-returns-2
-returns-2 c =
     let checked = c .before .before in
-    let told = checked .before .before in
-    let taking = told .before .before .before .before .before in
+    let taking = checked .before .before .before .before in
     let start = taking .before .before .before .before .before in
-    let kept = taken-kept (start .pre) (taking .take-in .ensures .kept) in
-    list-checked (start .pre) (all-taken (taken-by (start .pre) (taking .take-in .ensures)) (told .before .taken .given .1)) kept (checked .check-listed .ensures)
+    list-checked (start .pre) (taking .take-in .ensures) (checked .check-taken .ensures)
 
 pub check-list-spec : {M : Type 1} → statement M
 check-list-spec =
     tie.close
     (tie.spec
-    (λ c κs. search needs) (search needs) (search needs) list-refusal-requires (search needs) returns check-listed-requires
-    (search needs) returns-2)
+    (λ c κs. search needs) check-taken-requires (search needs) returns)

@@ -1,59 +1,52 @@
--- `line_checker::nodes::nodes_of_records` meets its contract: 12 and 13 on the area, then the nodes on the area after the test.
--- Rests on NodesFound and RecordCalls.
+-- `line_checker::nodes::nodes_of_records` meets its contract: the nodes go from the room into the buffer.
+-- Rests on NodesFound and Out.
+use native.Mathlib.Omega.{arith}
 use mathlib.Core.Path.{ap}
-use mathlib.Core.List.{List, [], _∷_}
-use lib.ListN.{length}
-use Rattle.paper.specs.Records.{nodesIn, recordsIn}
-use Rattle.paper.specs.Refusals.{Ruling, rule11}
-use Rattle.records.specs.Tested.{checkedSaid}
-use Rattle.tables.proofs.Bridge.{by-numbers, scratched-at}
-use Rattle.tables.proofs.Usable.{still-usable}
-use Rattle.intervals.proofs.Into.{into-refused}
-use Rattle.line_checker.proofs.ByPlaces.{into-answered}
-use Rattle.line_checker.proofs.NodesFound.{nodes-answered}
-use Rattle.line_checker.proofs.RecordCalls.{is-bad, records-refused, recorded-still, slotted-still}
+use Rattle.answers.specs.Said.{nodesSaid}
+use Rattle.line_checker.proofs.NodesFound.{not-nodes}
+use Rattle.line_checker.proofs.Out.{no-nodes, nodes-inside, nodes-long, nodes-fit}
 use borrow.Author.Needs.{needs}
 use Rattle.line_checker.proofs.nodes.nodes_of_records.Statement.{statement}
 use Rattle.line_checker.proofs.nodes.nodes_of_records.Tie as tie
 
-check-records-requires : tie.Need-check-records-requires
-check-records-requires c κs = by-numbers (c .before .before .before .before .before .pre)
-
-record-refusal-requires : tie.Need-record-refusal-requires
-record-refusal-requires c κs = is-bad (c .enum-told2 .given .1)
+find-nodes-requires : tie.Need-find-nodes-requires
+find-nodes-requires c κs =
+    let roomed = c .before .before in
+    let start = roomed .before .before .before .before .before in
+    (start .pre, omega (arith, roomed .node-room .ensures))
 
 returns : tie.Need-returns
 returns c =
-    let tested = c .before .before .before .before .before in
-    let start = tested .before .before .before .before .before .before in
-    let rest : List Ruling = rule11 (length (start .args .buffer .now)) (length (nodesIn (start .args .b .now) (start .args .area .now) (recordsIn (start .args .records .now) (start .args .count)))) ∷ [] in
-    into-answered (scratched-at (start .pre) (tested .check-records .ensures .kept)) (
-    into-refused _ _ _ _
-    (records-refused (start .pre) (tested .check-records .ensures) (c .record-refusal .ensures)
-    (is-bad (c .before .enum-told2 .given .1)) rest)
-    )
-
-write-nodes-requires : tie.Need-write-nodes-requires
-write-nodes-requires c κs =
-    let told = c .before .before in
-    let tested = told .before .before .before .before in
-    let start = tested .before .before .before .before .before .before in
-    let good = ap checkedSaid (told .enum-told .given .1) in (
-      still-usable (start .pre) (scratched-at (start .pre) (tested .check-records .ensures .kept)),
-      (recorded-still (start .pre) (tested .check-records .ensures) good, slotted-still (start .pre) (tested .check-records .ensures) good),
-    )
+    let finding = c .before .before .before .before .before in
+    let start = finding .before .before .before .before .before .before .before .before in
+    no-nodes (finding .find-nodes .ensures) (start .args .buffer .now) (not-nodes (finding .find-nodes .result) (c .before .match .keys2))
 
 returns-2 : tie.Need-returns-2
 returns-2 c =
-    let written = c .before .before in
-    let told = written .before .before .before in
-    let tested = told .before .before .before .before in
-    let start = tested .before .before .before .before .before .before in
-    nodes-answered (start .pre) (tested .check-records .ensures) (ap checkedSaid (told .enum-told .given .1)) (written .write-nodes .ensures)
+    let told = c .before .before in
+    let finding = told .before .before .before .before .before in
+    let start = finding .before .before .before .before .before .before .before .before in
+    nodes-long (finding .find-nodes .ensures) (start .args .buffer .now) (ap nodesSaid (told .found .given .1)) (c .if1 .taken)
+
+copy-out-requires : tie.Need-copy-out-requires
+copy-out-requires c κs =
+    let told = c .before .before .before .before in
+    let finding = told .before .before .before .before .before in
+    let start = finding .before .before .before .before .before .before .before .before in
+    (nodes-inside (finding .find-nodes .ensures) (start .args .buffer .now) (ap nodesSaid (told .found .given .1)), search needs)
+
+returns-3 : tie.Need-returns-3
+returns-3 c =
+    let copied = c .before .before in
+    let asked = copied .before .before .before in
+    let told = asked .before .before in
+    let finding = told .before .before .before .before .before in
+    let start = finding .before .before .before .before .before .before .before .before in
+    nodes-fit (finding .find-nodes .ensures) (start .args .buffer .now) (ap nodesSaid (told .found .given .1)) (asked .if1 .left) (copied .copy-out .ensures)
 
 pub nodes-of-records-spec : {M : Type 1} → statement M
 nodes-of-records-spec =
     tie.close
     (tie.spec
-    check-records-requires (search needs) (search needs) record-refusal-requires (search needs) returns write-nodes-requires (search needs)
-    (search needs) returns-2)
+    (λ c κs. search needs) (search needs) find-nodes-requires (search needs) (search needs) (search needs) returns (search needs) returns-2
+    (search needs) copy-out-requires (search needs) (search needs) returns-3)

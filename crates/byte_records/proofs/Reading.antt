@@ -1,10 +1,10 @@
--- The first records of a caller's bytes, read into a room, stand there, and in each part of the room that is long enough.
+-- The first records of a caller's bytes, read into a room, stand there.
 -- Rests on Enough, words's Buffers and lists.Sections.
 use Prim.Native.Nat.{ℕ, _+_, _-_, _*_, _/_, _≤_, _<_, min}
 use native.Mathlib.Omega.{arith}
 use mathlib.Core.Path.{_≡_, sym, ap, _∙_, subst}
 use mathlib.Core.List.{List}
-use lib.ListN.{length, getD, take, length-take}
+use lib.ListN.{length, getD, take}
 use lib.Seq.{sets, length-sets, length-take-le, getD-take}
 use Rattle.lists.proofs.Sections.{getD-sets-in}
 use Rattle.paper.specs.Records.{recordAt}
@@ -35,13 +35,6 @@ first-read room ws r inside fits =
         ap (λ (k : ℕ). getD (sets room 0 (take (3 * r) ws)) k 0) (plain j)
         ∙ getD-sets-in room 0 (take (3 * r) ws) j 0 (omega (arith, long)) (omega (arith, long))
         ∙ getD-take (3 * r) ws j 0 h
-
-first-part : {ws : List ℕ} {r : ℕ} {vs : List ℕ} → FirstRecords ws r vs → (k : ℕ) → r ≤ k → 3 * k ≤ length vs → FirstRecords ws r (take (3 * k) vs)
-first-part {ws} {r} {vs} held k more inside =
-    record {
-      fits = omega (arith, length-take-le (3 * k) vs inside);
-      same = λ i h. same-record (take (3 * k) vs) vs r (λ j l. getD-take (3 * k) vs j 0 (omega arith)) i h ∙ held .same i h;
-    }
 
 -- ---- from bytes
 
@@ -75,25 +68,3 @@ module _ (room bytes : List ℕ) {count : ℕ} (inside : count ≤ length bytes 
           held = subst (FirstRecords (wordsFrom bytes) (min count 2561)) (sym (read .1))
               (first-read room (wordsFrom bytes) (min count 2561) (omega (arith, length-wordsFrom bytes)) (omega arith));
         }
-
-    room-long : length vs ≡ 7683
-    room-long = ap length (read .1) ∙ length-sets room 0 (take (3 * min count 2561) (wordsFrom bytes)) ∙ long
-
-    module _ {fit : ℕ} (most : fit ≡ min (length bytes / 2 / 3) 2561) where
-      plain : 3 * fit ≡ 3 * fit - 0
-      plain = omega arith
-
-      whole : wholeRecords (take (3 * fit - 0) vs) ≡ min (wholeRecords (wordsFrom bytes)) 2561
-      unfolding wholeRecords
-      whole = omega (arith, length-take (3 * fit - 0) vs, room-long, length-wordsFrom bytes)
-
-      pub read-part : ReadRecords bytes count r (take (3 * fit - 0) vs) × (wholeRecords (take (3 * fit - 0) vs) ≡ min (wholeRecords (wordsFrom bytes)) 2561)
-      read-part = (
-        record {
-          is = read .0;
-          within = read-all .within;
-          held = subst (λ (k : ℕ). FirstRecords (wordsFrom bytes) (min count 2561) (take k vs)) plain
-              (first-part (read-all .held) fit (omega arith) (omega (arith, room-long)));
-        },
-        whole,
-      )
