@@ -46,6 +46,7 @@ module _ (buffer : List ℕ) (found : Path) (fits : length (stepsOf found) ≤ l
 module _ (b a list buffer : List ℕ) (fits : length (stepsOf (backPath b list)) ≤ length buffer) where
   never-11 : decide (opening b a ++ (lineRules b list ++ (rule11 (length buffer) (length (stepsOf (backPath b list))) ∷ [])))
       ≡ decide (opening b a ++ lineRules b list)
+  unfolding decide
   never-11 =
       ap decide (sym (append-assoc (opening b a) (lineRules b list) (rule11 (length buffer) (length (stepsOf (backPath b list))) ∷ [])))
       ∙ passing-last (opening b a ++ lineRules b list) (rule11 (length buffer) (length (stepsOf (backPath b list))) ∷ [])
@@ -77,9 +78,9 @@ module _ {b a : List ℕ} (standing : Standing b a) (list buffer : List ℕ) {m 
   pub steps-within : stepsShown x ≤ 514
   steps-within = omega (arith, ap stepsShown (asked .0), steps-answered b (preparedArea b) list buffer enough, room)
 
-  pub path-said : {before after : List ℕ} {end : ℕ} → Put before 0 (showWay (wayIn x words)) after end → end < length before
+  pub way-said : {before after : List ℕ} {end : ℕ} → Put before 0 (showWay (wayIn x words)) after end → end < length before
       → Printed b m (whySays b (preparedArea b) list) before after end
   unfolding whySays
-  path-said put short =
+  way-said put short =
       let way-is = ap₂ wayIn (asked .0) (asked .1 .0) ∙ way-answered b (preparedArea b) list buffer enough in
       record { shown = shown-as (ap showWay (sym way-is)) put (omega (arith, put .ends)); standing = asked .1 .1 }

@@ -1,5 +1,5 @@
 -- What is said of a path, and what stands in the buffer: that there is none, 11 where it does not fit, and else its steps alone.
--- Rests on intervals' Into and path_theory's Bounds.
+-- Rests on take_in's Into and path_theory's Bounds.
 use Prim.Native.Nat.{ℕ, suc, _≤_, _<_}
 use native.Mathlib.Omega.{arith}
 use mathlib.Core.Path.{_≡_, refl, sym, ap, _∙_, subst}
@@ -10,7 +10,7 @@ use Rattle.lists.specs.Lists.{least}
 use Rattle.lists.specs.Found.{absent, at}
 use Rattle.paper.specs.Path.{endsAt, closing, pathTo, Path, path, noPath, pathFrom, backPath, stepsOf, Shown, steps, noSteps, shownOf}
 use Rattle.paper.specs.Refusals.{rule11, decide, Answer, answered, refused}
-use Rattle.intervals.proofs.Into.{Into, too-long, short-enough, into-refused, into-passed}
+use Rattle.take_in.proofs.Into.{Into, too-long, short-enough, into-refused, into-passed}
 
 -- ---- by the way back's closing
 

@@ -17,11 +17,10 @@ use Rattle.order_theory.proofs.Links.{in-known}
 use Rattle.convexity_theory.proofs.Extremes.{least-most}
 use Rattle.convexity_theory.proofs.Memberships.{mem-in, in-keep, Some, any-some}
 use Rattle.neighbours.specs.Linked.{inStart, inSource}
-use Rattle.neighbours.specs.declared.both.Places.{Places}
 use Rattle.neighbours.proofs.Targets.{in-fits, in-rises, source-known, sources-are}
 use Rattle.distances.specs.Met.{tells}
-use Rattle.distances.specs.Reached.{Standing}
-use Rattle.back_path.specs.Ways.{inNeighbours, stepTold}
+use Rattle.back_path.specs.Ways.{Sourced, inNeighbours, stepTold}
+use Rattle.back_path.specs.declared.writing.Back.{Back}
 
 -- ---- the smallest of a list that grows, under a bound
 
@@ -64,7 +63,7 @@ pub record Searching (b a : List ℕ) (queue n d v i low : ℕ) : Type 0 where
   pub before : i ≤ inStart b (suc v)
   pub lowest : low ≡ least (n ∷ foundTo b a queue n d v i)
 
-module _ {b a : List ℕ} {n queue : ℕ} {at : Places} (st : Standing b a n queue at) {v : ℕ} (h : v < n) {end : ℕ} (ends : end ≡ inStart b (v + 1)) where
+module _ {b a : List ℕ} {back : Back} (st : Sourced b a back) {v : ℕ} (h : v < back .nodes) {end : ℕ} (ends : end ≡ inStart b (v + 1)) where
   is-sound : Sound b
   is-sound = sound b (st .linked .links)
 
@@ -74,35 +73,35 @@ module _ {b a : List ℕ} {n queue : ℕ} {at : Places} (st : Standing b a n que
   last : end ≡ inStart b (suc v)
   last = ends ∙ ap (inStart b) (add-one v)
 
-  pub search-starts : {d i : ℕ} → i ≡ inStart b v → Searching b a queue n d v i n
+  pub search-starts : {d i : ℕ} → i ≡ inStart b v → Searching b a (back .queue) (back .nodes) d v i (back .nodes)
   search-starts {d} {i} e =
       record {
         after = omega arith;
         before = omega (arith, in-rises b v known);
-        lowest = ap (λ (k : ℕ). least (n ∷ keep (λ u. tells a queue n u d) (map (inSource b) (from (inStart b v) k)))) (nought (inStart b v) i e);
+        lowest = ap (λ (k : ℕ). least (back .nodes ∷ keep (λ u. tells a (back .queue) (back .nodes) u d) (map (inSource b) (from (inStart b v) k)))) (nought (inStart b v) i e);
       }
     where
       nought : (x y : ℕ) → y ≡ x → 0 ≡ y - x
       nought x y e = omega arith
 
-  module _ {d i low : ℕ} (now : Searching b a queue n d v i low) (more : i < end) where
+  module _ {d i low : ℕ} (now : Searching b a (back .queue) (back .nodes) d v i low) (more : i < end) where
     pub place-known : i < L b
     place-known = omega (arith, more, last, in-fits b (suc v) (omega (arith, known)))
 
     module _ {u : ℕ} (read : u ≡ inSource b i) where
-      pub read-known : u < n
+      pub read-known : u < back .nodes
       read-known = omega (arith, read, source-known is-sound i place-known, st .linked .read .nodes)
 
-      one-more : foundTo b a queue n d v (i + 1) ≡ foundTo b a queue n d v i ++ cond (tells a queue n u d) (u ∷ []) []
+      one-more : foundTo b a (back .queue) (back .nodes) d v (i + 1) ≡ foundTo b a (back .queue) (back .nodes) d v i ++ cond (tells a (back .queue) (back .nodes) u d) (u ∷ []) []
       one-more =
           ap (λ (k : ℕ). keep told (map (inSource b) (from (inStart b v) k))) (later (inStart b v) i (now .after))
           ∙ ap (λ (xs : List ℕ). keep told (map (inSource b) xs)) (from-snoc (inStart b v) (i - inStart b v))
           ∙ ap (keep told) (map-append (inSource b) (from (inStart b v) (i - inStart b v)) ((inStart b v + (i - inStart b v)) ∷ []))
           ∙ keep-append told (map (inSource b) (from (inStart b v) (i - inStart b v))) (inSource b (inStart b v + (i - inStart b v)) ∷ [])
-          ∙ ap (λ (w : ℕ). foundTo b a queue n d v i ++ cond (told w) (w ∷ []) []) (ap (inSource b) (again (inStart b v) i (now .after)) ∙ sym read)
+          ∙ ap (λ (w : ℕ). foundTo b a (back .queue) (back .nodes) d v i ++ cond (told w) (w ∷ []) []) (ap (inSource b) (again (inStart b v) i (now .after)) ∙ sym read)
         where
           told : ℕ → Bool
-          told w = tells a queue n w d
+          told w = tells a (back .queue) (back .nodes) w d
 
           later : (start i : ℕ) → start ≤ i → i + 1 - start ≡ suc (i - start)
           later start i h = omega arith
@@ -110,34 +109,34 @@ module _ {b a : List ℕ} {n queue : ℕ} {at : Places} (st : Standing b a n que
           again : (start i : ℕ) → start ≤ i → start + (i - start) ≡ i
           again start i h = omega arith
 
-      searched : {next : ℕ} → next ≡ least (n ∷ (foundTo b a queue n d v i ++ cond (tells a queue n u d) (u ∷ []) [])) → Searching b a queue n d v (i + 1) next
+      searched : {next : ℕ} → next ≡ least (back .nodes ∷ (foundTo b a (back .queue) (back .nodes) d v i ++ cond (tells a (back .queue) (back .nodes) u d) (u ∷ []) [])) → Searching b a (back .queue) (back .nodes) d v (i + 1) next
       searched e =
-          record { after = omega (arith, now .after); before = omega (arith, more, last); lowest = e ∙ ap (λ (xs : List ℕ). least (n ∷ xs)) (sym one-more) }
+          record { after = omega (arith, now .after); before = omega (arith, more, last); lowest = e ∙ ap (λ (xs : List ℕ). least (back .nodes ∷ xs)) (sym one-more) }
 
-      module _ {test : Bool} (says : test ≡ tells a queue n u d) where
-        pub search-takes : test ≡ true → {next : ℕ} → next ≡ min low u → Searching b a queue n d v (i + 1) next
+      module _ {test : Bool} (says : test ≡ tells a (back .queue) (back .nodes) u d) where
+        pub search-takes : test ≡ true → {next : ℕ} → next ≡ min low u → Searching b a (back .queue) (back .nodes) d v (i + 1) next
         search-takes passes e =
             searched
             (e ∙ ap (λ (x : ℕ). min x u) (now .lowest)
-            ∙ sym (least-snoc n (foundTo b a queue n d v i) u)
-            ∙ ap (λ (t : Bool). least (n ∷ (foundTo b a queue n d v i ++ cond t (u ∷ []) []))) (sym passes ∙ says))
+            ∙ sym (least-snoc (back .nodes) (foundTo b a (back .queue) (back .nodes) d v i) u)
+            ∙ ap (λ (t : Bool). least (back .nodes ∷ (foundTo b a (back .queue) (back .nodes) d v i ++ cond t (u ∷ []) []))) (sym passes ∙ says))
 
-        pub search-passes : test ≡ false → {next : ℕ} → next ≡ low → Searching b a queue n d v (i + 1) next
+        pub search-passes : test ≡ false → {next : ℕ} → next ≡ low → Searching b a (back .queue) (back .nodes) d v (i + 1) next
         search-passes fails e =
             searched
             (e ∙ now .lowest
-            ∙ ap (λ (xs : List ℕ). least (n ∷ xs)) (sym (append-nil (foundTo b a queue n d v i)))
-            ∙ ap (λ (t : Bool). least (n ∷ (foundTo b a queue n d v i ++ cond t (u ∷ []) []))) (sym fails ∙ says))
+            ∙ ap (λ (xs : List ℕ). least (back .nodes ∷ xs)) (sym (append-nil (foundTo b a (back .queue) (back .nodes) d v i)))
+            ∙ ap (λ (t : Bool). least (back .nodes ∷ (foundTo b a (back .queue) (back .nodes) d v i ++ cond t (u ∷ []) []))) (sym fails ∙ says))
 
-  pub search-ends : {d i low : ℕ} → Searching b a queue n d v i low → end ≤ i → any (λ u. tells a queue n u d) (inNeighbours b v) ≡ true
-      → low ≡ stepTold b a queue n d v
+  pub search-ends : {d i low : ℕ} → Searching b a (back .queue) (back .nodes) d v i low → end ≤ i → any (λ u. tells a (back .queue) (back .nodes) u d) (inNeighbours b v) ≡ true
+      → low ≡ stepTold b a (back .queue) (back .nodes) d v
   unfolding stepTold inNeighbours
   search-ends {d} {i} now done some =
-      let w = marked-source is-sound a queue n v d some in
+      let w = marked-source is-sound a (back .queue) (back .nodes) v d some in
       now .lowest
-      ∙ ap (λ (k : ℕ). least (n ∷ foundTo b a queue n d v k)) done-so
-      ∙ ap (λ (xs : List ℕ). least (n ∷ keep (λ u. tells a queue n u d) xs)) (sources-are is-sound v known)
-      ∙ bound-out n (w .0) (keep (λ u. tells a queue n u d) (inNeighbours b v)) (w .1) (omega (arith, w .2, st .linked .read .nodes))
+      ∙ ap (λ (k : ℕ). least (back .nodes ∷ foundTo b a (back .queue) (back .nodes) d v k)) done-so
+      ∙ ap (λ (xs : List ℕ). least (back .nodes ∷ keep (λ u. tells a (back .queue) (back .nodes) u d) xs)) (sources-are is-sound v known)
+      ∙ bound-out (back .nodes) (w .0) (keep (λ u. tells a (back .queue) (back .nodes) u d) (inNeighbours b v)) (w .1) (omega (arith, w .2, st .linked .read .nodes))
     where
       done-so : i ≡ inStart b (suc v)
       done-so = omega (arith, now .before, done, last)

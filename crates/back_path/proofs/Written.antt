@@ -14,10 +14,9 @@ use Rattle.lists.proofs.Members.{member-below}
 use Rattle.order_theory.proofs.Refusals.{sound}
 use Rattle.convexity_theory.proofs.Extremes.{least-in}
 use Rattle.convexity_theory.proofs.Memberships.{in-mem, kept}
-use Rattle.neighbours.specs.declared.both.Places.{Places}
 use Rattle.distances.specs.Met.{tells}
-use Rattle.distances.specs.Reached.{Standing}
-use Rattle.back_path.specs.Ways.{inNeighbours, stepTold, wayTold, HasWay}
+use Rattle.back_path.specs.Ways.{Sourced, inNeighbours, stepTold, wayTold, HasWay}
+use Rattle.back_path.specs.declared.writing.Back.{Back}
 use Rattle.back_path.proofs.Searching.{sources-known, marked-source}
 
 some-links : (d : ℕ) → d ≢ 0 → d ≡ suc (d - 1)
@@ -26,25 +25,25 @@ some-links (suc d) h = omega arith
 
 -- ---- the step before
 
-module _ {b a : List ℕ} {n queue : ℕ} {at : Places} (st : Standing b a n queue at) {d : ℕ} (some : d ≢ 0) (v : ℕ) (way : HasWay b a queue n d v) where
-  one-less : (any (λ u. tells a queue n u (d - 1)) (inNeighbours b v) ≡ true) × HasWay b a queue n (d - 1) (stepTold b a queue n (d - 1) v)
+module _ {b a : List ℕ} {back : Back} (st : Sourced b a back) {d : ℕ} (some : d ≢ 0) (v : ℕ) (way : HasWay b a (back .queue) (back .nodes) d v) where
+  one-less : (any (λ u. tells a (back .queue) (back .nodes) u (d - 1)) (inNeighbours b v) ≡ true) × HasWay b a (back .queue) (back .nodes) (d - 1) (stepTold b a (back .queue) (back .nodes) (d - 1) v)
   unfolding HasWay
-  one-less = subst (λ (e : ℕ). HasWay b a queue n e v) (some-links d some) way
+  one-less = subst (λ (e : ℕ). HasWay b a (back .queue) (back .nodes) e v) (some-links d some) way
 
-  pub before-there : any (λ u. tells a queue n u (d - 1)) (inNeighbours b v) ≡ true
+  pub before-there : any (λ u. tells a (back .queue) (back .nodes) u (d - 1)) (inNeighbours b v) ≡ true
   before-there = one-less .0
 
-  module _ {u : ℕ} (read : u ≡ stepTold b a queue n (d - 1) v) where
-    pub before-way : HasWay b a queue n (d - 1) u
-    before-way = subst (HasWay b a queue n (d - 1)) (sym read) (one-less .1)
+  module _ {u : ℕ} (read : u ≡ stepTold b a (back .queue) (back .nodes) (d - 1) v) where
+    pub before-way : HasWay b a (back .queue) (back .nodes) (d - 1) u
+    before-way = subst (HasWay b a (back .queue) (back .nodes) (d - 1)) (sym read) (one-less .1)
 
-    pub before-known : u < n
+    pub before-known : u < back .nodes
     unfolding stepTold
     before-known =
         let s = sound b (st .linked .links) in
-        let w = marked-source s a queue n v (d - 1) before-there in
-        let marked = keep (λ x. tells a queue n x (d - 1)) (inNeighbours b v) in
-        let there = kept (λ x. tells a queue n x (d - 1)) (least marked) (inNeighbours b v) (least-in (w .0) marked (w .1)) .1 in
+        let w = marked-source s a (back .queue) (back .nodes) v (d - 1) before-there in
+        let marked = keep (λ x. tells a (back .queue) (back .nodes) x (d - 1)) (inNeighbours b v) in
+        let there = kept (λ x. tells a (back .queue) (back .nodes) x (d - 1)) (least marked) (inNeighbours b v) (least-in (w .0) marked (w .1)) .1 in
         omega (arith, read, member-below (sources-known s v) (in-mem (inNeighbours b v) there), st .linked .read .nodes)
 
 -- ---- what is written

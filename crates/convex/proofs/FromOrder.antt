@@ -1,12 +1,12 @@
 -- What ordering leaves is what the lines are laid from, and preparing writes over all of it.
 -- Rests on toposort's laws of what it laid, lists.Sections and lines_theory.
-use Prim.Native.Nat.{ℕ, _+_, _*_, _≤_, _<_}
+use Prim.Native.Nat.{ℕ, _+_, _≤_, _<_}
 use native.Mathlib.Nat.{zero-add}
 use native.Mathlib.Omega.{arith}
 use mathlib.Core.Path.{_≡_, sym, ap, ap₂, _∙_, subst, subst₂}
 use mathlib.Core.List.{List, map}
 use lib.ListN.{length, getD, replicate, length-replicate}
-use lib.Seq.{sets, length-sets}
+use lib.Seq.{length-sets}
 use Rattle.lists.specs.Lists.{upto}
 use Rattle.lists.proofs.Sections.{Apart, part, getD-sets-in, sets-sets}
 use Rattle.lists.proofs.Upto.{getD-zeros}
@@ -26,7 +26,7 @@ use Rattle.toposort.proofs.Refusing.{written-over}
 use Rattle.line_tables.specs.Layout.{firstsAt, topsAt, outSortedAt}
 use Rattle.line_tables.specs.Laying.{Laying}
 
-module _ {b a m : List ℕ} {at : Layout} {links : Listing} (done : OrderLaid b (cleared b a) at links m) (cycle : rule6 b ≡ passed) where
+module _ (a : List ℕ) {b m : List ℕ} {at : Layout} {links : Listing} (done : OrderLaid b (cleared b a) at links m) (cycle : rule6 b ≡ passed) where
   abbrev n : ℕ
   n = at .sizes .nodes
 

@@ -40,7 +40,7 @@ left-over [] vs ne x y m = go (decide vs) ne
 left-over (passed ∷ us) vs ne x y m = left-over us vs ne x y m
 left-over (refusal n v ∷ us) vs ne x y m = refl
 
-module _ {b a : List ℕ} {o : Ordered} {m : List ℕ} (known : OrderLeft b a o m) where
+module _ (b a : List ℕ) {o : Ordered} {m : List ℕ} (known : OrderLeft b a o m) where
   -- ---- a refusal
 
   pub refused-up : (x : Refusal) → OneOf (1 ∷ []) (tagOf the-type o) → ruled x ≡ ruling (orderedSaid o)
@@ -69,10 +69,10 @@ module _ {b a : List ℕ} {o : Ordered} {m : List ℕ} (known : OrderLeft b a o 
     order-left = subst (λ (r : Ordered). OrderLeft b a r m) done known .lies
 
     pub lines-ready : Laying b m (at .sizes .nodes) (at .sizes .links) (at .sizes .ports)
-    lines-ready = laying order-left no-cycle
+    lines-ready = laying a order-left no-cycle
 
     pub lines-laid : {k : ℕ} {z : List ℕ} → k ≡ tables b .count → z ≡ prepared b m → record { answer = answered k; area = z } ≡ prepare b a
     unfolding prepare
     lines-laid e f =
         same-left (ap (λ (k : ℕ). answered k) e ∙ passed-said passed-six (tables b .count))
-        (passed-kept (all-passed .0) a (passed-kept (all-passed .1) (cleared b a) (prepared-over order-left no-cycle f)))
+        (passed-kept (all-passed .0) a (passed-kept (all-passed .1) (cleared b a) (prepared-over a order-left no-cycle f)))

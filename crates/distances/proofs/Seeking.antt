@@ -7,12 +7,14 @@ use lib.ListN.{getD}
 use Rattle.lists.specs.Found.{Found, absent, listed}
 use Rattle.lists.proofs.Upto.{at-the-end}
 use Rattle.paper.specs.Map.{outNeighbours}
-use Rattle.neighbours.specs.declared.both.Places.{Places}
-use Rattle.neighbours.specs.Linked.{outStart, outTarget}
+use Rattle.stepmap.specs.declared.read.Sizes.{Sizes}
+use Rattle.neighbours.specs.declared.Listing.{Listing}
+use Rattle.neighbours.specs.Linked.{Outgoing, outStart, outTarget}
+use Rattle.neighbours.proofs.Passing.{targetsTo, no-targets, targets-next, all-targets}
 use Rattle.distances.specs.Met.{Met, listedOf}
-use Rattle.distances.specs.Reached.{Standing, targetsIn}
+use Rattle.distances.specs.Reached.{targetsIn}
 use Rattle.distances.specs.Smallest.{smallest}
-use Rattle.distances.proofs.Passing.{targetsTo, no-targets, targets-next, all-targets, no-nodes, nodes-next, place-inside}
+use Rattle.distances.proofs.Passing.{no-nodes, nodes-next, place-inside}
 use Rattle.distances.proofs.Smallest.{listed-none, listed-on}
 
 -- ---- the links of a node
@@ -28,11 +30,11 @@ module _ (b : List ℕ) (v : ℕ) (a : List ℕ) (queue n : ℕ) (found : Found)
       listed-on a queue n found (targetsTo b v i) (w ∷ []) g h
       (targets-next b v i low ∙ ap (λ (x : ℕ). targetsTo b v i ++ (x ∷ [])) (sym e))
 
-module _ {b a : List ℕ} {n queue : ℕ} {at : Places} (st : Standing b a n queue at) {v : ℕ} (known : v < n) (found : Found) where
+module _ {b a : List ℕ} {s : Sizes} {links : Listing} (out : Outgoing b a s links) {v : ℕ} (known : v < s .nodes) (queue n : ℕ) (found : Found) where
   pub links-all : {i end : ℕ} {last : Found} → end ≡ outStart b (v + 1) → i ≤ end → end ≤ i
       → last ≡ smallest (listed found ++ listedOf a queue n (targetsTo b v i)) → last ≡ smallest (listed found ++ listedOf a queue n (outNeighbours b v))
   links-all ends low high g =
-      g ∙ ap (λ (xs : List ℕ). smallest (listed found ++ listedOf a queue n xs)) (all-targets st known ends low high)
+      g ∙ ap (λ (xs : List ℕ). smallest (listed found ++ listedOf a queue n xs)) (all-targets out known ends low high)
 
 -- ---- the nodes of the queue
 

@@ -8,8 +8,9 @@ use Rattle.lists.specs.Lists.{member}
 use Rattle.lists.proofs.Sections.{part}
 use Rattle.paper.specs.Map.{outNeighbours}
 use Rattle.paper.specs.Path.{rounds, levelAt}
-use Rattle.neighbours.specs.LinkedBy.{Linked}
-use Rattle.neighbours.specs.declared.both.Places.{Places}
+use Rattle.neighbours.specs.Linked.{Outgoing}
+use Rattle.neighbours.specs.declared.Listing.{Listing}
+use Rattle.stepmap.specs.declared.read.Sizes.{Sizes}
 use Rattle.distances.specs.Met.{Met, tells, metSize}
 
 -- up to distance d, marks and distances tell a list's levels
@@ -17,9 +18,9 @@ pub record Told (b list a : List ℕ) (queue n d : ℕ) : Type 0 where
   pub level : (e u : ℕ) → e ≤ d → u < n → tells a queue n u e ≡ member u (levelAt b list e)
 
 -- the links stand behind the distances
-pub record Standing (b a : List ℕ) (n queue : ℕ) (at : Places) : Type 0 where
-  pub linked : Linked b a n at
-  pub apart : queue + metSize n ≤ at .firsts
+pub record Standing (b a : List ℕ) (s : Sizes) (queue : ℕ) (links : Listing) : Type 0 where
+  pub linked : Outgoing b a s links
+  pub apart : queue + metSize (s .nodes) ≤ links .firsts
 
 -- what the nodes of the queue from place `from` up to place `to` are linked to
 unfoldable pub targetsIn : List ℕ → List ℕ → ℕ → ℕ → ℕ → List ℕ

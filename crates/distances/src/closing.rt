@@ -1,9 +1,10 @@
 // The first distance at which a step is linked to the list again, and the smallest listed step that it is linked to.
 use super::queue::at_distance;
 use super::rounds::round;
-use neighbours::both::Places;
-use neighbours::both::target_at;
-use neighbours::both::targets_start;
+use neighbours::Listing;
+use neighbours::target_at;
+use neighbours::targets_start;
+use stepmap::read::Sizes;
 use words::section::word_at;
 ghost use mathlib.Core.Path.{_≡_};
 ghost use mathlib.Core.List.{[], _∷_, _++_};
@@ -57,24 +58,24 @@ fn smaller_listed(area: &[u16], queue: usize, n: usize, v: usize, found: Smalles
 // The smallest of what was found and the listed steps that node v is linked to.
 fn smallest_target(
     b: &[u8],
-    n: usize,
+    sizes: Sizes,
     area: &[u16],
     queue: usize,
-    at: Places,
+    links: Listing,
     v: usize,
     found: Smallest,
 ) -> Smallest
-    requires { ⌜ Standing (now b) (now area) n queue at ⌝ }
-    requires { ⌜ v < n ⌝ }
+    requires { ⌜ Standing (now b) (now area) sizes queue links ⌝ }
+    requires { ⌜ v < sizes .nodes ⌝ }
     ensures { λ r. ⌜ smallestSaid r
-        ≡ smallest (listed (smallestSaid found) ++ listedOf (now (area .entry)) queue n (outNeighbours (now (b .entry)) v)) ⌝ }
+        ≡ smallest (listed (smallestSaid found) ++ listedOf (now (area .entry)) queue (sizes .nodes) (outNeighbours (now (b .entry)) v)) ⌝ }
 {
-    let mut i = targets_start(b, n, area, at, v);
-    let end = targets_start(b, n, area, at, v + 1);
+    let mut i = targets_start(b, sizes, area, links, v);
+    let end = targets_start(b, sizes, area, links, v + 1);
     let mut best = found;
     while i < end {
-        let w = target_at(b, n, area, at, i);
-        best = smaller_listed(area, queue, n, w, best);
+        let w = target_at(b, sizes, area, links, i);
+        best = smaller_listed(area, queue, sizes.nodes, w, best);
         i += 1;
     }
     best
@@ -83,24 +84,24 @@ fn smallest_target(
 // The smallest listed step that a node from place `from` up to place `to` is linked to.
 fn smallest_end(
     b: &[u8],
-    n: usize,
+    sizes: Sizes,
     area: &[u16],
     queue: usize,
-    at: Places,
+    links: Listing,
     from: usize,
     to: usize,
 ) -> Smallest
-    requires { ⌜ Standing (now b) (now area) n queue at ⌝ }
-    requires { ⌜ Met (now area) queue n to ⌝ }
+    requires { ⌜ Standing (now b) (now area) sizes queue links ⌝ }
+    requires { ⌜ Met (now area) queue (sizes .nodes) to ⌝ }
     requires { ⌜ from ≤ to ⌝ }
     ensures { λ r. ⌜ smallestSaid r
-        ≡ smallest (listedOf (now (area .entry)) queue n (targetsIn (now (b .entry)) (now (area .entry)) queue from to)) ⌝ }
+        ≡ smallest (listedOf (now (area .entry)) queue (sizes .nodes) (targetsIn (now (b .entry)) (now (area .entry)) queue from to)) ⌝ }
 {
     let mut best = Smallest::Absent;
     let mut t = from;
     while t < to {
         let v = word_at(area, queue, t);
-        best = smallest_target(b, n, area, queue, at, v, best);
+        best = smallest_target(b, sizes, area, queue, links, v, best);
         t += 1;
     }
     best
@@ -109,25 +110,25 @@ fn smallest_end(
 // Goes round by round until a step of the last one is linked to the list, or a round brings no step.
 pub fn close(
     b: &[u8],
-    n: usize,
+    sizes: Sizes,
     area: &mut [u16],
     queue: usize,
-    at: Places,
+    links: Listing,
     count: usize,
 ) -> Closing
-    requires { ⌜ Standing (now b) (now area) n queue at ⌝ }
-    requires { ⌜ Reached (now b) (part (now area) queue count) (now area) queue n 0 count 0 ⌝ }
-    ensures { λ r. ⌜ Closed (now (b .entry)) (now (area .entry)) queue n count r (now (area .exit)) ⌝ }
+    requires { ⌜ Standing (now b) (now area) sizes queue links ⌝ }
+    requires { ⌜ Reached (now b) (part (now area) queue count) (now area) queue (sizes .nodes) 0 count 0 ⌝ }
+    ensures { λ r. ⌜ Closed (now (b .entry)) (now (area .entry)) queue (sizes .nodes) count r (now (area .exit)) ⌝ }
 {
     let mut d = 0;
     let mut from = 0;
     let mut to = count;
     while from < to {
-        let grown = round(b, n, area, queue, at, from, to, d + 1);
+        let grown = round(b, sizes, area, queue, links, from, to, d + 1);
         from = to;
         to = grown;
         d += 1;
-        let end = smallest_end(b, n, area, queue, at, from, to);
+        let end = smallest_end(b, sizes, area, queue, links, from, to);
         if let Smallest::At(w) = end {
             return Closing::At(d, w);
         }

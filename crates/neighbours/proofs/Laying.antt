@@ -152,6 +152,7 @@ module _ {b a : List ℕ} {s : Sizes} {out : Listing} (outgoing : Outgoing b a s
                   sorted-stand = stands (out .sorted) (s .links) (inr (omega (arith, outgoing))) (omega (arith, outgoing)) ∙ outgoing .sorted-stand;
                 };
             incoming = listed roomy-in (targetPort b) target-low end-at e;
+            first = refl;
             last = omega (arith, end-at, sorted-at);
             kept = kept;
           }

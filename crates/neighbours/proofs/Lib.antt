@@ -8,6 +8,3 @@ pub mod Keeping
 pub mod Sorting
 pub mod Laying
 pub mod Passing
-pub mod ReadingBy
-pub mod KeepingBy
-pub mod LayingBy

@@ -86,5 +86,6 @@ pub record OutgoingLaid (b a : List ℕ) (s : Sizes) (from : ℕ) (at : Listing)
 pub record IncomingLaid (b a : List ℕ) (s : Sizes) (out back : Listing) (m : List ℕ) : Type 0 where
   pub outgoing : Outgoing b m s out
   pub incoming : Incoming b m s back
+  pub first : back .firsts ≡ out .firsts
   pub last : back .end ≡ out .end + incomingSize s
   pub kept : (from size : ℕ) → from ≤ out .keys → back .end ≤ from + size → Within from size a m

@@ -1,6 +1,5 @@
 // The links of a map laid once: its nodes' first ports and the links by output port, and behind them the links by input port, in the lent
-// area; and from them the steps that a node feeds and those that feed it.
-pub mod both;
+// area; and from them the steps that a node feeds.
 pub mod by_port;
 pub mod keys;
 
@@ -12,10 +11,9 @@ ghost use lib.Seq.{sets};
 ghost use Rattle.lists.specs.Lists.{upto};
 ghost use Rattle.paper.specs.Map.{firstPort};
 ghost use Rattle.stepmap.specs.Formed.{Numbered};
-ghost use Rattle.neighbours.specs.Linked.{Free, Incoming, IncomingLaid, Outgoing, OutgoingLaid, inSource, inStart, incomingSize, outStart, outTarget, outgoingSize};
+ghost use Rattle.neighbours.specs.Linked.{Free, IncomingLaid, Outgoing, OutgoingLaid, incomingSize, outStart, outTarget, outgoingSize};
 use by_port::links_by_input;
 use by_port::links_by_output;
-use stepmap::access::link_from;
 use stepmap::access::link_to;
 use stepmap::ports::first_ports;
 use stepmap::read::Sizes;
@@ -106,24 +104,4 @@ pub fn target_at(b: &[u8], sizes: Sizes, area: &[u16], at: Listing, i: usize) ->
 {
     let k = word_at(area, at.sorted, i);
     link_to(b, sizes.nodes, k)
-}
-
-// Where the links into node v start among those by input port.
-pub fn sources_start(b: &[u8], sizes: Sizes, area: &[u16], at: Listing, v: usize) -> usize
-    requires { ⌜ Incoming (now b) (now area) sizes at ⌝ }
-    requires { ⌜ v ≤ sizes .nodes ⌝ }
-    ensures { λ r. ⌜ r ≡ inStart (now (b .entry)) v ⌝ }
-{
-    let first = word_at(area, at.firsts, v);
-    word_at(area, at.starts, first)
-}
-
-// The node that the i-th of those links comes from.
-pub fn source_at(b: &[u8], sizes: Sizes, area: &[u16], at: Listing, i: usize) -> usize
-    requires { ⌜ Incoming (now b) (now area) sizes at ⌝ }
-    requires { ⌜ i < sizes .links ⌝ }
-    ensures { λ r. ⌜ r ≡ inSource (now (b .entry)) i ⌝ }
-{
-    let k = word_at(area, at.sorted, i);
-    link_from(b, sizes.nodes, k)
 }

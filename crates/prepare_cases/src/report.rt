@@ -5,11 +5,15 @@ use answers::Prepared;
 use libc::STDOUT_FILENO;
 use refusals::number as number_of;
 use refusals::place as place_of;
+use stepmap::read::Sizes;
 use stepmap::read::StepMap;
 use stepmap::read::read_map;
+use tables::Layout;
+use tables::lay_out;
 use words::field::wide;
-ghost use Prim.Native.Nat.{_+_, _*_, _≤_, _<_};
+ghost use Prim.Native.Nat.{_≤_, _<_};
 ghost use lib.ListN.{length};
+ghost use Rattle.tables.specs.Placed.{LaidOut};
 
 fn write(text: &[u8]) {
     io::write_all(STDOUT_FILENO, text);
@@ -143,37 +147,31 @@ fn write_part(name: &[u8], area: &[u16], from: usize, to: usize)
     write_section(name, &area[from..to]);
 }
 
-// The sections of a map with n nodes and l links, the scratch and what is past it excepted.
-fn write_tables(area: &[u16], n: usize, l: usize)
-    requires { ⌜ (n ≤ 512) × (l ≤ 2048) × (3 + 6 * n + 5 * l ≤ length (now area)) ⌝ }
+// The sections of an area, the scratch and what is past it excepted.
+fn write_tables(area: &[u16], at: Layout)
+    requires { ⌜ LaidOut (at .sizes) at ⌝ }
+    requires { ⌜ at .scratch ≤ length (now area) ⌝ }
 {
-    let positions = 1 + n;
-    let node_starts = positions + n;
-    let node_lines = node_starts + n + 1;
-    let line_starts = node_lines + 2 * l + n;
-    let line_nodes = line_starts + l + n + 1;
-    write_part(b"line count", area, 0, 1);
-    write_part(b"order", area, 1, positions);
-    write_part(b"positions", area, positions, node_starts);
-    write_part(b"node starts", area, node_starts, node_lines);
-    write_part(b"lines of nodes", area, node_lines, line_starts);
-    write_part(b"line starts", area, line_starts, line_nodes);
-    write_part(b"nodes of lines", area, line_nodes, line_nodes + 2 * l + n);
+    write_part(b"line count", area, 0, at.order);
+    write_part(b"order", area, at.order, at.positions);
+    write_part(b"positions", area, at.positions, at.begins);
+    write_part(b"node starts", area, at.begins, at.lines);
+    write_part(b"lines of nodes", area, at.lines, at.starts);
+    write_part(b"line starts", area, at.starts, at.along);
+    write_part(b"nodes of lines", area, at.along, at.scratch);
 }
 
-// The area of a map with these sizes: by sections, or as one if it is under W words.
-fn write_sized(area: &[u16], n: usize, l: usize, p: usize)
-    requires { ⌜ (n ≤ 512) × (l ≤ 2048) × (p ≤ 4096) ⌝ }
+// An area whose sections stand there: by sections, or as one if it is under W words.
+fn write_placed(area: &[u16], at: Layout)
+    requires { ⌜ LaidOut (at .sizes) at ⌝ }
 {
-    let scratch = 3 + 6 * n + 5 * l;
-    let end = 7 + 10 * n + 9 * l + 2 * p;
-    if area.len() < end {
+    if area.len() < at.end {
         write_section(b"area", area);
         return;
     }
-    write_tables(area, n, l);
-    write_part(b"scratch", area, scratch, end);
-    write_part(b"past W", area, end, area.len());
+    write_tables(area, at);
+    write_part(b"scratch", area, at.scratch, at.end);
+    write_part(b"past W", area, at.end, area.len());
 }
 
 // The area after preparing the map, which is as one for a map of refusal 1 or 2.
@@ -188,5 +186,10 @@ pub fn write_area(map: &[u8], area: &[u16]) {
         write_section(b"area", area);
         return;
     };
-    write_sized(area, nodes, links, ports);
+    let at = lay_out(Sizes {
+        nodes: nodes,
+        links: links,
+        ports: ports,
+    });
+    write_placed(area, at);
 }

@@ -2,8 +2,10 @@
 use line_checker::room::copy_out;
 use recorded::comparing::same_words;
 use recorded::line_parts::Part;
+use stepmap::read::Sizes;
 use stepmap::read::StepMap;
 use stepmap::read::read_map;
+use tables::lay_out;
 use words::section::fill;
 ghost use mathlib.Core.Path.{_≡_};
 ghost use lib.ListN.{length};
@@ -38,12 +40,18 @@ fn scratch(map: &[u8], size: usize) -> Part
     else {
         return Part::Missing;
     };
-    let from = 3 + 6 * nodes + 5 * links;
-    let to = from + 4 * nodes + 4 * links + 2 * ports + 4;
-    if to > size {
+    let at = lay_out(Sizes {
+        nodes: nodes,
+        links: links,
+        ports: ports,
+    });
+    if at.end > size {
         return Part::Missing;
     }
-    Part::Words { from, to }
+    Part::Words {
+        from: at.scratch,
+        to: at.end,
+    }
 }
 
 // Marks the scratch, before a question is asked.

@@ -1,6 +1,6 @@
 -- The scratch laid out: what each step of the ordering finds, and what they come to.
 -- Rests on Running, Ordered, tables' Within and lists.Sections.
-use Prim.Native.Nat.{ℕ, _+_, _≤_, _<_}
+use Prim.Native.Nat.{ℕ, _≤_, _<_}
 use native.Mathlib.Omega.{arith}
 use mathlib.Core.Path.{_≡_, refl, sym, ap, _∙_, subst}
 use mathlib.Core.Logic.{inl, inr}
@@ -15,7 +15,7 @@ use Rattle.paper.specs.Order.{queueAfter, order}
 use Rattle.tables.specs.declared.Layout.{Layout}
 use Rattle.tables.specs.Within.{Within}
 use Rattle.tables.specs.Placed.{scratchSize}
-use Rattle.tables.proofs.Within.{within-both, within-none, within-sets, within-wider}
+use Rattle.tables.proofs.Within.{within-sets, within-wider}
 use Rattle.neighbours.specs.Linked.{Free, OutgoingLaid, outgoingSize}
 use Rattle.neighbours.specs.declared.Listing.{Listing}
 use Rattle.toposort.specs.Standing.{Indexed, Standing, openInputs, laid, withTargets}

@@ -8,7 +8,7 @@ use lib.ListN.{length, replicate, length-replicate}
 use lib.Seq.{sets}
 use Rattle.lists.proofs.Sections.{sets-sets}
 use Rattle.paper.specs.Area.{cleared}
-use Rattle.paper.specs.Refusals.{Ruling, passed, refusal, Answer, answer, onRefusal, refused, answered, decide, rule6}
+use Rattle.paper.specs.Refusals.{Ruling, passed, refusal, answer, onRefusal, refused, answered, decide, rule6}
 use Rattle.refusals.specs.Said.{ruling}
 use Rattle.refusals.specs.declared.Refusal.the-variants as Reason
 use Rattle.tables.specs.declared.Layout.{Layout}

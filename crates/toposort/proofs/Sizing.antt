@@ -1,6 +1,6 @@
 -- What is left of a map that passes 1 and 2, and of any map, put together from the rules' answers.
 -- Rests on Refusing, tables' Placed, refusals' Answers and stepmap's.
-use Prim.Native.Nat.{ℕ, _+_, _≤_, _<_}
+use Prim.Native.Nat.{ℕ, _≤_, _<_}
 use native.Mathlib.Omega.{arith}
 use mathlib.Core.Path.{_≡_, refl, sym, ap, _∙_, subst}
 use mathlib.Core.Logic.{_≢_}

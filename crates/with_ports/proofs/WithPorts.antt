@@ -1,20 +1,18 @@
 -- A check and then its ports: a refusal of the check comes before 14, and a conflict before what the check replied.
--- Rests on refusals' Rulings, line_checker's RecordCalls and tables' Within.
+-- Rests on refusals' Rulings, line_checker's Out and tables' Within.
 use Prim.Native.Nat.{ℕ}
 use mathlib.Core.Path.{_≡_, refl, sym, ap, _∙_}
 use mathlib.Core.Bool.{Bool, true, false, cond}
 use mathlib.Core.List.{List, [], _∷_, _++_}
 use types.Run.{OneOf, miss}
 use denote.Enum.Declared.{tagOf}
-use Rattle.paper.specs.Calls.{portRules}
-use Rattle.paper.specs.Ports.{conflict}
 use Rattle.paper.specs.Refusals.{Ruling, passed, refusal, Answer, answer, answered, refused, decide}
 use Rattle.refusals.specs.Said.{ruling}
 use Rattle.refusals.proofs.Rulings.{ruling-answer, no-refusal, first-decides}
 use Rattle.answers.specs.Said.{lineSaid, topoSaid}
 use Rattle.answers.specs.declared.LineAnswer.{LineAnswer}
 use Rattle.answers.specs.declared.LineAnswer.the-variants as Line
-use Rattle.line_checker.proofs.RecordCalls.{said-after}
+use Rattle.line_checker.proofs.Out.{said-after}
 use Rattle.tables.specs.declared.Layout.{Layout}
 use Rattle.tables.specs.Answered.{Answered}
 use Rattle.answers.proofs.LineAnswer.{the-type as line-type}
@@ -65,23 +63,18 @@ module _ {A : Type 0} {at : Layout} {a m : List ℕ} {said : Answer A} {rules : 
   ports-said (refusal k v) met denied = refl
 
   -- "no (count 0) if any listed input is the other end of the FIRST link of a listed output; else the check chosen"
-  pub then-ports : ruling said ≡ passed → {b o inputs outputs : List ℕ} {found : Answer Bool}
-      → Answered at m o found (portRules b inputs outputs) (conflict b inputs outputs) → (denied : A) {y : Answer A} → y ≡ afterPorts found denied said
-      → Answered at a o y (rules ++ portRules b inputs outputs) (cond (conflict b inputs outputs) denied x)
+  pub then-ports : ruling said ≡ passed → {o : List ℕ} {found : Answer Bool} {ports : List Ruling} {met : Bool} → Answered at m o found ports met
+      → (denied : A) {y : Answer A} → y ≡ afterPorts found denied said → Answered at a o y (rules ++ ports) (cond met denied x)
   unfolding answer
-  then-ports passes {b} {o} {inputs} {outputs} {found} looked denied e =
+  then-ports passes {o} {found} {ports} {met} looked denied e =
       record {
         says =
-            said-after rules (sym all-pass) ports (cond (conflict b inputs outputs) denied x)
+            said-after rules (sym all-pass) ports (cond met denied x)
             (e ∙ ap (λ (f : Answer Bool). afterPorts f denied said) (looked .says)
-            ∙ ap (afterPorts (answer (decide ports) (conflict b inputs outputs)) denied) replied
-            ∙ ports-said (decide ports) (conflict b inputs outputs) denied);
+            ∙ ap (afterPorts (answer (decide ports) met) denied) replied ∙ ports-said (decide ports) met denied);
         kept = within-both (checked .kept) (looked .kept);
       }
     where
-      ports : List Ruling
-      ports = portRules b inputs outputs
-
       all-pass : decide rules ≡ passed
       all-pass = decided ∙ passes
 

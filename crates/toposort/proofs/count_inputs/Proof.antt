@@ -1,6 +1,5 @@
 -- `toposort::count_inputs` meets its contract: the targets of the links are written, and tallied.
 -- Rests on Inputs.
-use native.Mathlib.Omega.{arith}
 use borrow.Author.Needs.{needs}
 use Rattle.toposort.proofs.Inputs.{tabled, filled-room, keyed, zeros, counted}
 use Rattle.toposort.proofs.count_inputs.Statement.{statement}

@@ -1,6 +1,6 @@
 -- `asking::ways::say_path` meets its contract: the path is answered as in the prepared area, whose words in use it leaves, and there is room for it.
 -- Rests on Paths.
-use Rattle.asking.proofs.Paths.{steps-within, path-said}
+use Rattle.asking.proofs.Paths.{steps-within, way-said}
 use native.Mathlib.Omega.{arith}
 use borrow.Author.Needs.{needs}
 use Rattle.asking.proofs.ways.say_path.Statement.{statement}
@@ -20,7 +20,7 @@ returns c =
     let shown = put .before .before .before .before .before .before in
     let made = shown .before .before .before in
     let start = made .before .before .before .before .before in (
-      path-said (start .pre .0) (start .args .list .now) (made .path-room .result) (made .path-room .ensures) (shown .show-path .ensures .0) (put .put-way .ensures .0) (search needs),
+      way-said (start .pre .0) (start .args .list .now) (made .path-room .result) (made .path-room .ensures) (shown .show-path .ensures .0) (put .put-way .ensures .0) (search needs),
       put .put-way .ensures .1,
     )
 

@@ -3,7 +3,7 @@
 use native.Mathlib.Omega.{arith}
 use borrow.Author.Needs.{needs}
 use Rattle.distances.proofs.Reaching.{begins}
-use Rattle.back_path.proofs.Listing.{to-mark, standing, standing-on, near, end-known, end-way, shows-none, shows-long, shows-path}
+use Rattle.back_path.proofs.Listing.{to-mark, standing, sourced, near, end-known, end-way, shows-none, shows-long, shows-path}
 use Rattle.back_path.proofs.showing.show_listed.Statement.{statement}
 use Rattle.back_path.proofs.showing.show_listed.Tie as tie
 
@@ -11,14 +11,14 @@ mark-list-requires : tie.Need-mark-list-requires
 mark-list-requires c κs =
     let laid = c .before .before .before in
     let start = laid .before .before .before .before .before in
-    to-mark (start .pre .0) (start .pre .1) (laid .lay-links .ensures)
+    to-mark (start .pre .0) (start .pre .1) (laid .lay .ensures)
 
 close-requires : tie.Need-close-requires
 close-requires c κs =
     let marked = c .before .before .before in
     let laid = marked .before .before .before .before in
     let start = laid .before .before .before .before .before in
-    (standing (start .pre .0) (start .pre .1) (laid .lay-links .ensures) (marked .mark-list .ensures), begins (marked .mark-list .ensures))
+    (standing (start .pre .0) (start .pre .1) (laid .lay .ensures) (marked .mark-list .ensures), begins (marked .mark-list .ensures))
 
 returns : tie.Need-returns
 returns c =
@@ -26,7 +26,7 @@ returns c =
     let marked = closed .before .before .before .before in
     let laid = marked .before .before .before .before in
     let start = laid .before .before .before .before .before in
-    shows-none (start .pre .0) (start .pre .1) (laid .lay-links .ensures) (marked .mark-list .ensures) (closed .close .ensures) (c .enum-told .given .1) _
+    shows-none (start .pre .0) (start .pre .1) (laid .lay .ensures) (marked .mark-list .ensures) (closed .close .ensures) (c .enum-told .given .1) _
 
 add-steps : tie.Need-add-steps
 add-steps c =
@@ -35,7 +35,7 @@ add-steps c =
     let marked = closed .before .before .before .before in
     let laid = marked .before .before .before .before in
     let start = laid .before .before .before .before .before in
-    omega (arith, near (start .pre .0) (start .pre .1) (laid .lay-links .ensures) (marked .mark-list .ensures) (closed .close .ensures) (known .closing .given .1))
+    omega (arith, near (start .pre .0) (start .pre .1) (laid .lay .ensures) (marked .mark-list .ensures) (closed .close .ensures) (known .closing .given .1))
 
 returns-2 : tie.Need-returns-2
 returns-2 c =
@@ -44,7 +44,7 @@ returns-2 c =
     let marked = closed .before .before .before .before in
     let laid = marked .before .before .before .before in
     let start = laid .before .before .before .before .before in
-    shows-long (start .pre .0) (start .pre .1) (laid .lay-links .ensures) (marked .mark-list .ensures) (closed .close .ensures) (known .closing .given .1) _ (c .if1 .taken)
+    shows-long (start .pre .0) (start .pre .1) (laid .lay .ensures) (marked .mark-list .ensures) (closed .close .ensures) (known .closing .given .1) _ (c .if1 .taken)
 
 add-write-path : tie.Need-add-write-path
 add-write-path c =
@@ -53,7 +53,7 @@ add-write-path c =
     let marked = closed .before .before .before .before in
     let laid = marked .before .before .before .before in
     let start = laid .before .before .before .before .before in
-    omega (arith, near (start .pre .0) (start .pre .1) (laid .lay-links .ensures) (marked .mark-list .ensures) (closed .close .ensures) (known .closing .given .1))
+    omega (arith, near (start .pre .0) (start .pre .1) (laid .lay .ensures) (marked .mark-list .ensures) (closed .close .ensures) (known .closing .given .1))
 
 write-path-requires : tie.Need-write-path-requires
 write-path-requires c κs =
@@ -62,11 +62,11 @@ write-path-requires c κs =
     let marked = closed .before .before .before .before in
     let laid = marked .before .before .before .before in
     let start = laid .before .before .before .before .before in (
-      standing-on (start .pre .0) (start .pre .1) (laid .lay-links .ensures) (marked .mark-list .ensures) (closed .close .ensures),
+      sourced (start .pre .0) (start .pre .1) (laid .lay .ensures) (marked .mark-list .ensures) (closed .close .ensures),
       (
-        end-known (start .pre .0) (start .pre .1) (laid .lay-links .ensures) (marked .mark-list .ensures) (closed .close .ensures) (known .closing .given .1),
+        end-known (start .pre .0) (start .pre .1) (laid .lay .ensures) (marked .mark-list .ensures) (closed .close .ensures) (known .closing .given .1),
         (
-          end-way (start .pre .0) (start .pre .1) (laid .lay-links .ensures) (marked .mark-list .ensures) (closed .close .ensures) (known .closing .given .1),
+          end-way (start .pre .0) (start .pre .1) (laid .lay .ensures) (marked .mark-list .ensures) (closed .close .ensures) (known .closing .given .1),
           omega (arith, c .before .before .if1 .left),
         ),
       ),
@@ -79,13 +79,12 @@ returns-3 c =
     let marked = closed .before .before .before .before in
     let laid = marked .before .before .before .before in
     let start = laid .before .before .before .before .before in
-    shows-path (start .pre .0) (start .pre .1) (laid .lay-links .ensures) (marked .mark-list .ensures) (closed .close .ensures) (known .closing .given .1) _
+    shows-path (start .pre .0) (start .pre .1) (laid .lay .ensures) (marked .mark-list .ensures) (closed .close .ensures) (known .closing .given .1) _
     (omega (arith, c .before .before .before .before .before .if1 .left)) (c .before .before .write-path .ensures)
 
 pub show-listed-spec : {M : Type 1} → statement M
 show-listed-spec =
     tie.close
     (tie.spec
-    (search needs) (search needs) (search needs) (search needs) (search needs) (search needs) (λ c κs. search needs) mark-list-requires close-requires
-    (search needs) (search needs) (search needs) returns add-steps (search needs) returns-2 add-write-path write-path-requires (search needs)
-    (search needs) returns-3)
+    (λ c κs. search needs) mark-list-requires close-requires (search needs) (search needs) (search needs) returns add-steps (search needs)
+    returns-2 add-write-path write-path-requires (search needs) (search needs) returns-3)

@@ -14,7 +14,7 @@ use Rattle.back_path.proofs.writing.+write_path.{statement}
 use Rattle.back_path.proofs.writing.+write_path.Tie.{close}
 
 abbrev measure : Measures 3 kinds.ps ℕ
-measure κs a = a .1 .1 .1 .1 .1 .1 .0
+measure κs a = a .1 .1 .1 .1 .0
 
 -- what the function is given at the measure t, and what its call of itself asks below t
 abbrev given : ℕ → In 3 kinds.ps

@@ -10,10 +10,10 @@ use Rattle.back_path.proofs.writing.step_before.Statement.{statement}
 use Rattle.back_path.proofs.writing.step_before.Tie as tie
 
 abbrev Inv-loop : tie.InvT-loop
-Inv-loop b n area queue at v d i₀ end least₀ i least = Searching b area queue n d v i least
+Inv-loop b area back v d i₀ end least₀ i least = Searching b area (back .queue) (back .nodes) d v i least
 
 abbrev μ-loop : tie.MeasureT-loop
-μ-loop b n area queue at v d i₀ end least₀ i least = end - i
+μ-loop b area back v d i₀ end least₀ i least = end - i
 
 loop-holds : tie.Need-loop-holds Inv-loop μ-loop
 loop-holds c =
@@ -24,14 +24,14 @@ source-at-requires : tie.Need-source-at-requires Inv-loop μ-loop
 source-at-requires c κs =
     let begun = c .before .before in
     let start = begun .before .before .before .before in
-    (start .pre .0 .linked, place-known (start .pre .0) (start .pre .1 .0) (begun .sources-start2 .ensures) (c .before .loop .inv) (c .loop-test .taken))
+    (start .pre .0, place-known (start .pre .0) (start .pre .1 .0) (begun .sources-start2 .ensures) (c .before .loop .inv) (c .loop-test .taken))
 
 at-distance-requires : tie.Need-at-distance-requires Inv-loop μ-loop
 at-distance-requires c κs =
     let turn = c .before in
     let begun = turn .before .before in
     let start = begun .before .before .before .before in (
-      omega (arith, start .pre .0 .apart),
+      start .pre .0 .room,
       read-known (start .pre .0) (start .pre .1 .0) (begun .sources-start2 .ensures) (turn .before .loop .inv) (turn .loop-test .taken) (c .source-at .ensures),
     )
 

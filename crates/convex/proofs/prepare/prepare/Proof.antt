@@ -15,18 +15,18 @@ returns : tie.Need-returns
 returns c =
     let matched = c .before .before in
     let ordered = matched .before .before .before .order-map in
-    refused-up (ordered .ensures) (c .refusal .result) (matched .match .keys2) (c .refusal .ensures)
+    refused-up _ _ (ordered .ensures) (c .refusal .result) (matched .match .keys2) (c .refusal .ensures)
 
 lay-lines-requires : tie.Need-lay-lines-requires
 lay-lines-requires c κs =
     let matched = c .before .before in
-    lines-ready (matched .before .before .before .before .order-map .ensures) (matched .ordered .given .1)
+    lines-ready _ _ (matched .before .before .before .before .order-map .ensures) (matched .ordered .given .1)
 
 returns-2 : tie.Need-returns-2
 returns-2 c =
     let lines = c .before .before .lay-lines in
     let matched = c .before .before .before .before .before in
-    lines-laid (matched .before .before .before .before .order-map .ensures) (matched .ordered .given .1) (lines .ensures .0) (lines .ensures .1)
+    lines-laid _ _ (matched .before .before .before .before .order-map .ensures) (matched .ordered .given .1) (lines .ensures .0) (lines .ensures .1)
 
 pub prepare-spec : {M : Type 1} → statement M
 prepare-spec =

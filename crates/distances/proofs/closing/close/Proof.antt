@@ -12,10 +12,10 @@ use Rattle.distances.proofs.closing.close.Statement.{statement}
 use Rattle.distances.proofs.closing.close.Tie as tie
 
 abbrev Inv-loop : tie.InvT-loop
-Inv-loop b n area₀ queue at count d₀ from₀ to₀ area d from to = Open b area₀ queue n count from to d area
+Inv-loop b sizes area₀ queue links count d₀ from₀ to₀ area d from to = Open b area₀ queue (sizes .nodes) count from to d area
 
 abbrev μ-loop : tie.MeasureT-loop
-μ-loop b n area₀ queue at count d₀ from₀ to₀ area d from to = n - from
+μ-loop b sizes area₀ queue links count d₀ from₀ to₀ area d from to = sizes .nodes - from
 
 loop-holds : tie.Need-loop-holds Inv-loop μ-loop
 loop-holds c = open-first (c .before .before .pre .1)

@@ -13,17 +13,17 @@ use Rattle.distances.proofs.closing.smallest_end.Statement.{statement}
 use Rattle.distances.proofs.closing.smallest_end.Tie as tie
 
 abbrev Inv-loop : tie.InvT-loop
-Inv-loop b n area queue at from to best₀ t₀ best t = (from ≤ t) × (t ≤ to) × (smallestSaid best ≡ smallest (listedOf area queue n (targetsIn b area queue from t)))
+Inv-loop b sizes area queue links from to best₀ t₀ best t = (from ≤ t) × (t ≤ to) × (smallestSaid best ≡ smallest (listedOf area queue (sizes .nodes) (targetsIn b area queue from t)))
 
 abbrev μ-loop : tie.MeasureT-loop
-μ-loop b n area queue at from to best₀ t₀ best t = to - t
+μ-loop b sizes area queue links from to best₀ t₀ best t = to - t
 
 loop-holds : tie.Need-loop-holds Inv-loop μ-loop
 loop-holds c =
     let start = c .before .before in (
       omega arith,
       omega (arith, start .pre .1 .1),
-      nodes-none (start .args .b .now) (start .args .area .now) (start .args .queue) (start .args .n) (start .args .from),
+      nodes-none (start .args .b .now) (start .args .area .now) (start .args .queue) (start .args .sizes .nodes) (start .args .from),
     )
 
 word-at-requires : tie.Need-word-at-requires Inv-loop μ-loop
@@ -48,7 +48,7 @@ loop-again c =
 returns : tie.Need-returns Inv-loop μ-loop
 returns c =
     let start = c .before .before .before .before in
-    nodes-all (start .args .b .now) (start .args .area .now) (start .args .queue) (start .args .n) (start .args .from) (c .before .loop .inv .1) (c .loop-test .left) (c .before .loop .inv .2)
+    nodes-all (start .args .b .now) (start .args .area .now) (start .args .queue) (start .args .sizes .nodes) (start .args .from) (c .before .loop .inv .1) (c .loop-test .left) (c .before .loop .inv .2)
 
 pub smallest-end-spec : {M : Type 1} → statement M
 smallest-end-spec =

@@ -12,10 +12,10 @@ use Rattle.distances.proofs.rounds.round.Statement.{statement}
 use Rattle.distances.proofs.rounds.round.Tie as tie
 
 abbrev Inv-loop : tie.InvT-loop
-Inv-loop b n area₀ queue at from to d grown₀ t₀ area grown t = (from ≤ t) × (t ≤ to) × Joins area₀ queue n to (targetsIn b area₀ queue from t) d grown area
+Inv-loop b sizes area₀ queue links from to d grown₀ t₀ area grown t = (from ≤ t) × (t ≤ to) × Joins area₀ queue (sizes .nodes) to (targetsIn b area₀ queue from t) d grown area
 
 abbrev μ-loop : tie.MeasureT-loop
-μ-loop b n area₀ queue at from to d grown₀ t₀ area grown t = to - t
+μ-loop b sizes area₀ queue links from to d grown₀ t₀ area grown t = to - t
 
 loop-holds : tie.Need-loop-holds Inv-loop μ-loop
 loop-holds c =

@@ -1,11 +1,11 @@
 -- `toposort::turns::turn` meets its contract: after each link of the front the area is as the state within the turn lays it.
 -- Rests on Turning.
-use Prim.Native.Nat.{_+_, _-_, _≤_, _<_}
+use Prim.Native.Nat.{_-_, _≤_, _<_}
 use native.Mathlib.Omega.{arith}
 use borrow.Author.Needs.{needs}
 use mathlib.Core.Path.{_≡_, ap, _∙_}
 use lib.ListN.{length}
-use Rattle.paper.specs.Order.{Queue, queueAfter}
+use Rattle.paper.specs.Order.{Queue}
 use Rattle.order_theory.specs.Queued.{frontAt, midTurn}
 use Rattle.toposort.specs.Standing.{laid}
 use Rattle.toposort.proofs.Turning.{
