@@ -5,7 +5,7 @@ ghost use Rattle.paper.specs.Words.{wordsFrom};
 ghost use Rattle.answers.specs.Said.{pathSaid};
 ghost use Rattle.byte_calls.specs.Buffered.{buffered};
 use answers::PathAnswer;
-use byte_lists::show_path_of_list_bytes;
+use byte_path::show_path_of_list_bytes;
 use opening::Opened;
 use opening::ends::clear_scratch;
 use opening::ends::refusal;

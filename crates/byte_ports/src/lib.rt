@@ -12,7 +12,7 @@ ghost use Rattle.tables.specs.Usable.{Usable};
 ghost use Rattle.answers.specs.Said.{lineSaid, topoSaid};
 use answers::LineAnswer;
 use answers::TopoAnswer;
-use byte_lists::check_list_bytes;
+use line_checker::line_check::check_list_bytes;
 use port_conflict::check_ports_bytes;
 use tables::Layout;
 use topo_checker::check_order_bytes;
