@@ -29,13 +29,7 @@ fn path_room() -> [u16; 513]
 }
 
 // The path of the list that was taken in, in a room for the longest one.
-fn find_path(
-    b: &[u8],
-    at: Layout,
-    area: &mut [u16],
-    taken: Taken,
-    room: &mut [u16],
-) -> PathAnswer
+fn find_path(b: &[u8], at: Layout, area: &mut [u16], taken: Taken, room: &mut [u16]) -> PathAnswer
     requires { ⌜ Usable (now b) (now area) at ⌝ }
     requires { ⌜ StandsTaken (now area) at taken ⌝ }
     requires { ⌜ length (now room) ≡ 513 ⌝ }
