@@ -11,10 +11,11 @@ use Rattle.list_questions.proofs.intervals_into.Tie as tie
 returns : tie.Need-returns
 unfolding getIntervalsFromNodes callInto
 returns c =
-    let start = c .before .before .before .before .before .before .before .before .before .before .before .before .before .before .args in
+    let made = c .before .before .before .before .before .before in
+    let start = made .before .before .before .before .before .before .before .before .args in
     let line = start .words .now in (
-      asked-with line writtenWords {at = start .at} {at′ = start .at} (c .before .before .before .before .before .before .get-intervals-from-nodes .ensures) (c .is-intervals-answer .ensures) refl,
-      ap (λ (l : LeftWith Written). l .area) (c .before .before .before .before .before .before .get-intervals-from-nodes .ensures),
+      asked-with line writtenWords {at = start .at} {at′ = start .at} (made .get-intervals-from-nodes .ensures) (c .is-intervals-answer .ensures) refl,
+      ap (λ (l : LeftWith Written). l .area) (made .get-intervals-from-nodes .ensures),
     )
 
 pub intervals-into-spec : {M : Type 1} → statement M

@@ -30,10 +30,13 @@ returns c =
 returns-2 : tie.Need-returns-2
 unfolding sameIntervals
 returns-2 c =
-    let start = c .before .before .before .before .before .before .before .before .before .before .args in
+    let second = c .before .before in
+    let listed = second .before .before in
+    let first = listed .before .before in
+    let start = first .before .before .before .before .args in
     let line = start .words .now in (
       nowhere (getD line (behind line 1) 0) 7680 _
-          (no-records line (behind line (behind line 1)) _ _ (omega (arith, lacks-second line 1 (c .before .before .before .before .before .before .list-at .ensures) (c .before .before .before .before .list .given .1) (c .before .before .list-at2 .ensures) (c .enum-told2 .given .1)))),
+          (no-records line (behind line (behind line 1)) _ _ (omega (arith, lacks-second line 1 (first .list-at .ensures) (listed .list .given .1) (second .list-at2 .ensures) (c .enum-told2 .given .1)))),
       not-true,
     )
 
@@ -43,9 +46,13 @@ sub-size c = let part = within _ _ (c .before .before .before .list-at2 .ensures
 returns-3 : tie.Need-returns-3
 unfolding sameIntervals
 returns-3 c =
-    let start = c .before .before .before .before .before .before .before .before .before .before .before .before .args in
+    let lent-out = c .before .before in
+    let second = lent-out .before .before in
+    let listed = second .before .before in
+    let first = listed .before .before in
+    let start = first .before .before .before .before .args in
     let line = start .words .now in
-    (no-room (getD line (behind line 1) 0) 7680 _ (omega (arith, second-size line 1 (c .before .before .before .before .before .before .before .before .list-at .ensures) (c .before .before .before .before .before .before .list .given .1) (c .before .before .before .before .list-at2 .ensures) (c .before .before .buffer .given .1))), not-true)
+    (no-room (getD line (behind line 1) 0) 7680 _ (omega (arith, second-size line 1 (first .list-at .ensures) (listed .list .given .1) (second .list-at2 .ensures) (lent-out .buffer .given .1))), not-true)
 
 mul-copy-out : tie.Need-mul-copy-out
 mul-copy-out c = let part = within _ _ (c .before .before .before .before .before .list-at2 .ensures) (c .before .before .before .buffer .given .1) in search needs
@@ -61,37 +68,62 @@ part-copy-out-end c = let part = within _ _ (c .before .before .before .before .
 
 copy-out-requires : tie.Need-copy-out-requires
 copy-out-requires c κs =
-    let start = c .before .before .before .before .before .before .before .before .before .before .before .before .before .before .before .args in
+    let room = c .before .before in
+    let lent-out = room .before .before .before in
+    let second = lent-out .before .before in
+    let start = second .before .before .before .before .before .before .before .before .args in
     let line = start .words .now in
-    (omega (arith, part-length line _ (c .before .before .before .before .before .before .before .list-at2 .ensures) (c .before .before .before .before .before .buffer .given .1)), omega (arith, c .before .before .record-room .ensures))
+    (omega (arith, part-length line _ (second .list-at2 .ensures) (lent-out .buffer .given .1)), omega (arith, room .record-room .ensures))
 
 mul-intervals-into : tie.Need-mul-intervals-into
-mul-intervals-into c = let part = within _ _ (c .before .before .before .before .before .before .before .before .before .before .before .before .before .before .list-at .ensures) (c .before .before .before .before .before .before .before .before .before .before .before .before .list .given .1) in search needs
+mul-intervals-into c =
+    let listed = c .before .before .before .before .before .before .before .before .before .before .before .before in
+    let first = listed .before .before in
+    let part = within _ _ (first .list-at .ensures) (listed .list .given .1) in search needs
 
 sub-intervals-into : tie.Need-sub-intervals-into
-sub-intervals-into c = let part = within _ _ (c .before .before .before .before .before .before .before .before .before .before .before .before .before .before .list-at .ensures) (c .before .before .before .before .before .before .before .before .before .before .before .before .list .given .1) in search needs
+sub-intervals-into c =
+    let listed = c .before .before .before .before .before .before .before .before .before .before .before .before in
+    let first = listed .before .before in
+    let part = within _ _ (first .list-at .ensures) (listed .list .given .1) in search needs
 
 part-intervals-into-start : tie.Need-part-intervals-into-start
-part-intervals-into-start c = let part = within _ _ (c .before .before .before .before .before .before .before .before .before .before .before .before .before .before .list-at .ensures) (c .before .before .before .before .before .before .before .before .before .before .before .before .list .given .1) in search needs
+part-intervals-into-start c =
+    let listed = c .before .before .before .before .before .before .before .before .before .before .before .before in
+    let first = listed .before .before in
+    let part = within _ _ (first .list-at .ensures) (listed .list .given .1) in search needs
 
 part-intervals-into-end : tie.Need-part-intervals-into-end
-part-intervals-into-end c = let part = within _ _ (c .before .before .before .before .before .before .before .before .before .before .before .before .before .before .list-at .ensures) (c .before .before .before .before .before .before .before .before .before .before .before .before .list .given .1) in search needs
+part-intervals-into-end c =
+    let listed = c .before .before .before .before .before .before .before .before .before .before .before .before in
+    let first = listed .before .before in
+    let part = within _ _ (first .list-at .ensures) (listed .list .given .1) in search needs
 
 intervals-into-requires : tie.Need-intervals-into-requires
-intervals-into-requires c κs = let part = within _ _ (c .before .before .before .before .before .before .before .before .before .before .before .before .list-at2 .ensures) (c .before .before .before .before .before .before .before .before .before .before .buffer .given .1) in search needs
+intervals-into-requires c κs =
+    let lent-out = c .before .before .before .before .before .before .before .before .before .before in
+    let second = lent-out .before .before in
+    let part = within _ _ (second .list-at2 .ensures) (lent-out .buffer .given .1) in search needs
 
 returns-4 : tie.Need-returns-4
 unfolding sameIntervals
 returns-4 c =
-    let start = c .before .before .before .before .before .before .before .before .before .before .before .before .before .before .before .before .before .before .before .before .before .before .before .before .args in
+    let made = c .before .before .before in
+    let copied = made .before .before .before .before .before in
+    let room = copied .before .before .before in
+    let lent-out = room .before .before .before in
+    let second = lent-out .before .before in
+    let listed = second .before .before in
+    let first = listed .before .before in
+    let start = first .before .before .before .before .args in
     let line = start .words .now in
     let b = start .map .now in
     let a = start .area .now in (
-      has-room (getD line (behind line 1) 0) 7680 _ (omega (arith, second-size line 1 (c .before .before .before .before .before .before .before .before .before .before .before .before .before .before .before .before .before .before .before .before .list-at .ensures) (c .before .before .before .before .before .before .before .before .before .before .before .before .before .before .before .before .before .before .list .given .1) (c .before .before .before .before .before .before .before .before .before .before .before .before .before .before .before .before .list-at2 .ensures) (c .before .before .before .before .before .before .before .before .before .before .before .before .before .before .buffer .given .1)))
-          (two-with line 1 (c .before .before .before .before .before .before .before .before .before .before .before .before .before .before .before .before .before .before .before .before .list-at .ensures) (c .before .before .before .before .before .before .before .before .before .before .before .before .before .before .before .before .before .before .list .given .1) (c .before .before .before .before .before .before .before .before .before .before .before .before .before .before .before .before .list-at2 .ensures) (c .before .before .before .before .before .before .before .before .before .before .before .before .before .before .buffer .given .1) writtenWords (λ (l m : List ℕ). getIntervalsFromNodes b a l m)
-          (lent line _ (c .before .before .before .before .before .before .before .before .before .before .before .before .before .before .before .before .list-at2 .ensures) (c .before .before .before .before .before .before .before .before .before .before .before .before .before .before .buffer .given .1) (c .before .before .before .before .before .before .before .before .before .before .before .record-room .result) (c .before .before .before .before .before .before .before .before .before .before .before .record-room .ensures) (omega arith) (c .before .before .before .before .before .before .before .before .copy-out .ensures))
-          (c .before .before .before .intervals-into .ensures .0)),
-      (λ _. c .before .before .before .intervals-into .ensures .1),
+      has-room (getD line (behind line 1) 0) 7680 _ (omega (arith, second-size line 1 (first .list-at .ensures) (listed .list .given .1) (second .list-at2 .ensures) (lent-out .buffer .given .1)))
+          (two-with line 1 (first .list-at .ensures) (listed .list .given .1) (second .list-at2 .ensures) (lent-out .buffer .given .1) writtenWords (λ (l m : List ℕ). getIntervalsFromNodes b a l m)
+          (lent line _ (second .list-at2 .ensures) (lent-out .buffer .given .1) (room .record-room .result) (room .record-room .ensures) (omega arith) (copied .copy-out .ensures))
+          (made .intervals-into .ensures .0)),
+      (λ _. made .intervals-into .ensures .1),
     )
 
 pub same-intervals-spec : {M : Type 1} → statement M

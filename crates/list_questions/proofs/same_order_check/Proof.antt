@@ -39,10 +39,13 @@ is-order-answer-requires c κs = let part = within _ _ (c .before .before .befor
 returns-2 : tie.Need-returns-2
 unfolding sameOrderCheck topoIsNodeConvex call
 returns-2 c =
-    let start = c .before .before .before .before .before .before .before .before .before .before .before .before .before .args in
+    let checked = c .before .before .before in
+    let listed = checked .before .before .before .before in
+    let first = listed .before .before in
+    let start = first .before .before .before .before .args in
     let line = start .words .now in (
-      one-list line 1 (c .before .before .before .before .before .before .before .before .before .list-at .ensures) (c .before .before .before .before .before .before .before .list .given .1) orderWords (topoIsNodeConvex (start .map .now) (start .area .now)) (c .before .before .before .is-node-convex .ensures .0) (c .is-order-answer .ensures),
-      (λ _. ap (λ (l : Left Reply). l .area) (c .before .before .before .is-node-convex .ensures .0)),
+      one-list line 1 (first .list-at .ensures) (listed .list .given .1) orderWords (topoIsNodeConvex (start .map .now) (start .area .now)) (checked .is-node-convex .ensures .0) (c .is-order-answer .ensures),
+      (λ _. ap (λ (l : Left Reply). l .area) (checked .is-node-convex .ensures .0)),
     )
 
 pub same-order-check-spec : {M : Type 1} → statement M

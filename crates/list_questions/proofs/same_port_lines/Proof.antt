@@ -20,11 +20,14 @@ returns c =
 returns-2 : tie.Need-returns-2
 unfolding linesAtPort call
 returns-2 c =
-    let start = c .before .before .before .before .before .before .before .before .before .before .before .before .before .args in
+    let viewed = c .before in
+    let asked = viewed .before .before .before .before in
+    let counted = asked .before .before in
+    let start = counted .before .before .before .before .before .before .args in
     let line = start .words .now in (
-      port-lines line (start .map .now) (start .area .now) (c .before .before .before .before .before .before .before .wide .ensures) (c .before .before .before .before .before .lines-at-port .ensures) (c .before .view-lines-at-port .ensures .0)
+      port-lines line (start .map .now) (start .area .now) (counted .wide .ensures) (asked .lines-at-port .ensures) (viewed .view-lines-at-port .ensures .0)
           (c .is-port-answer .ensures),
-      (λ _. ap (λ (l : Left (ℕ × ℕ)). l .area) (c .before .before .before .before .before .lines-at-port .ensures)),
+      (λ _. ap (λ (l : Left (ℕ × ℕ)). l .area) (asked .lines-at-port .ensures)),
     )
 
 pub same-port-lines-spec : {M : Type 1} → statement M

@@ -12,10 +12,11 @@ use Rattle.record_questions.proofs.extends_to.Tie as tie
 returns : tie.Need-returns
 unfolding tryExtendIntervals callInto
 returns c =
-    let start = c .before .before .before .before .before .before .before .before .before .before .before .before .before .args in
+    let made = c .before .before .before .before .before .before in
+    let start = made .before .before .before .before .before .before .before .args in
     let line = start .words .now in (
-      asked-with line writtenWords {at = start .at} {at′ = start .at} (c .before .before .before .before .before .before .try-extend-intervals .ensures) (c .is-extend-answer .ensures) refl,
-      ap (λ (l : LeftWith Written). l .area) (c .before .before .before .before .before .before .try-extend-intervals .ensures),
+      asked-with line writtenWords {at = start .at} {at′ = start .at} (made .try-extend-intervals .ensures) (c .is-extend-answer .ensures) refl,
+      ap (λ (l : LeftWith Written). l .area) (made .try-extend-intervals .ensures),
     )
 
 pub extends-to-spec : {M : Type 1} → statement M

@@ -12,10 +12,11 @@ use Rattle.record_questions.proofs.nodes_into.Tie as tie
 returns : tie.Need-returns
 unfolding nodesInIntervals callInto
 returns c =
-    let start = c .before .before .before .before .before .before .before .before .before .before .before .before .before .before .args in
+    let made = c .before .before .before .before .before .before in
+    let start = made .before .before .before .before .before .before .before .before .args in
     let line = start .words .now in (
-      asked-with line countWords {at = start .at} {at′ = start .at} (c .before .before .before .before .before .before .nodes-in-intervals .ensures) (c .is-nodes-answer .ensures) refl,
-      ap (λ (l : LeftWith ℕ). l .area) (c .before .before .before .before .before .before .nodes-in-intervals .ensures),
+      asked-with line countWords {at = start .at} {at′ = start .at} (made .nodes-in-intervals .ensures) (c .is-nodes-answer .ensures) refl,
+      ap (λ (l : LeftWith ℕ). l .area) (made .nodes-in-intervals .ensures),
     )
 
 pub nodes-into-spec : {M : Type 1} → statement M

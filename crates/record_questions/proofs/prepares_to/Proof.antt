@@ -43,10 +43,13 @@ returns-2 c =
 returns-3 : tie.Need-returns-3
 unfolding samePrepared
 returns-3 c =
-    let start = c .before .before .before .before .before .before .before .before .before .before .before .before .before .before .args in
-    let place : 3 + 2 * c .before .before .before .before .before .before .before .before .wide .result + 4 * c .before .before .before .before .before .before .wide2 .result ≡ answerAt (start .words .now) = omega (arith, c .before .before .before .before .before .before .before .before .wide .ensures, c .before .before .before .before .before .before .wide2 .ensures) in (
-      asked (start .words .now) countWords (c .before .before .before .prepare .ensures) (c .is-prepared .ensures) place,
-      (λ _. ap (λ l. l .area) (c .before .before .before .prepare .ensures)),
+    let made = c .before .before .before in
+    let noded = made .before .before .before in
+    let counted = noded .before .before in
+    let start = counted .before .before .before .before .before .before .args in
+    let place : 3 + 2 * counted .wide .result + 4 * noded .wide2 .result ≡ answerAt (start .words .now) = omega (arith, counted .wide .ensures, noded .wide2 .ensures) in (
+      asked (start .words .now) countWords (made .prepare .ensures) (c .is-prepared .ensures) place,
+      (λ _. ap (λ l. l .area) (made .prepare .ensures)),
     )
 
 pub prepares-to-spec : {M : Type 1} → statement M

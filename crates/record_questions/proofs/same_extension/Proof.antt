@@ -50,42 +50,59 @@ part-copy-out-end c = let part = within _ _ (c .before .before .before .before .
 
 copy-out-requires : tie.Need-copy-out-requires
 copy-out-requires c κs =
-    let start = c .before .before .before .before .before .before .before .before .before .before .before .args in
+    let room = c .before .before in
+    let lent-out = room .before .before .before in
+    let first = lent-out .before .before in
+    let start = first .before .before .before .before .args in
     let line = start .words .now in
-    (omega (arith, part-length line 3 (c .before .before .before .before .before .before .before .list-at .ensures) (c .before .before .before .before .before .buffer .given .1)), omega (arith, c .before .before .record-room .ensures))
+    (omega (arith, part-length line 3 (first .list-at .ensures) (lent-out .buffer .given .1)), omega (arith, room .record-room .ensures))
 
 shared-slice-read-wide : tie.Need-shared-slice-read-wide
 shared-slice-read-wide c =
-    let start = c .before .before .before .before .before .before .before .before .before .before .before .before .before .before .before .before .args in
+    let lent-out = c .before .before .before .before .before .before .before .before .before .before in
+    let first = lent-out .before .before in
+    let start = first .before .before .before .before .args in
     let line = start .words .now in
-    let part = within _ _ (c .before .before .before .before .before .before .before .before .before .before .before .before .list-at .ensures) (c .before .before .before .before .before .before .before .before .before .before .buffer .given .1) in omega (arith, part .inside, ends line 3 (c .before .before .before .before .before .before .before .before .before .before .before .before .list-at .ensures) (c .before .before .before .before .before .before .before .before .before .before .buffer .given .1))
+    let part = within _ _ (first .list-at .ensures) (lent-out .buffer .given .1) in omega (arith, part .inside, ends line 3 (first .list-at .ensures) (lent-out .buffer .given .1))
 
 shared-slice-read-wide-2 : tie.Need-shared-slice-read-wide-2
 shared-slice-read-wide-2 c =
-    let start = c .before .before .before .before .before .before .before .before .before .before .before .before .before .before .before .before .before .before .args in
+    let lent-out = c .before .before .before .before .before .before .before .before .before .before .before .before in
+    let first = lent-out .before .before in
+    let start = first .before .before .before .before .args in
     let line = start .words .now in
-    let part = within _ _ (c .before .before .before .before .before .before .before .before .before .before .before .before .before .before .list-at .ensures) (c .before .before .before .before .before .before .before .before .before .before .before .before .buffer .given .1) in omega (arith, part .inside, ends line 3 (c .before .before .before .before .before .before .before .before .before .before .before .before .before .before .list-at .ensures) (c .before .before .before .before .before .before .before .before .before .before .before .before .buffer .given .1))
+    let part = within _ _ (first .list-at .ensures) (lent-out .buffer .given .1) in omega (arith, part .inside, ends line 3 (first .list-at .ensures) (lent-out .buffer .given .1))
 
 extends-to-requires : tie.Need-extends-to-requires
-extends-to-requires c κs = let part = within _ _ (c .before .before .before .before .before .before .before .before .before .before .before .before .before .before .before .list-at .ensures) (c .before .before .before .before .before .before .before .before .before .before .before .before .before .buffer .given .1) in search needs
+extends-to-requires c κs =
+    let lent-out = c .before .before .before .before .before .before .before .before .before .before .before .before .before in
+    let first = lent-out .before .before in
+    let part = within _ _ (first .list-at .ensures) (lent-out .buffer .given .1) in search needs
 
 returns-3 : tie.Need-returns-3
 unfolding sameExtension
 returns-3 c =
-    let start = c .before .before .before .before .before .before .before .before .before .before .before .before .before .before .before .before .before .before .before .before .before .before .before .args in
+    let made = c .before .before .before in
+    let noded = made .before in
+    let counted = noded .before .before in
+    let copied = counted .before .before .before .before .before in
+    let room = copied .before .before .before in
+    let lent-out = room .before .before .before in
+    let first = lent-out .before .before in
+    let start = first .before .before .before .before .args in
     let line = start .words .now in
     let b = start .map .now in
     let a = start .area .now in
     let told : LeftWith Written → Bool = λ l. same (drop (behind line 3) line) (withList (writtenWords (l .answer)) (l .buffer)) in (
-      has-room (getD line 3 0) 7680 _ (omega (arith, part-size line 3 (c .before .before .before .before .before .before .before .before .before .before .before .before .before .before .before .before .before .before .before .list-at .ensures) (c .before .before .before .before .before .before .before .before .before .before .before .before .before .before .before .before .before .buffer .given .1)))
+      has-room (getD line 3 0) 7680 _ (omega (arith, part-size line 3 (first .list-at .ensures) (lent-out .buffer .given .1)))
           (
-          one-with line 3 (c .before .before .before .before .before .before .before .before .before .before .before .before .before .before .before .before .before .before .before .list-at .ensures) (c .before .before .before .before .before .before .before .before .before .before .before .before .before .before .before .before .before .buffer .given .1) writtenWords (λ (l : List ℕ). tryExtendIntervals b a l (c .before .before .before .before .before .before .wide .result) (c .before .before .before .before .wide2 .result))
-          (lent line 3 (c .before .before .before .before .before .before .before .before .before .before .before .before .before .before .before .before .before .before .before .list-at .ensures) (c .before .before .before .before .before .before .before .before .before .before .before .before .before .before .before .before .before .buffer .given .1) (c .before .before .before .before .before .before .before .before .before .before .before .before .before .before .record-room .result) (c .before .before .before .before .before .before .before .before .before .before .before .before .before .before .record-room .ensures) (omega arith) (c .before .before .before .before .before .before .before .before .before .before .before .copy-out .ensures))
-          (c .before .before .before .extends-to .ensures .0)
-          ∙ ap (λ (n : ℕ). told (tryExtendIntervals b a (listAt line 3) n (c .before .before .before .before .wide2 .result))) (c .before .before .before .before .before .before .wide .ensures)
-          ∙ ap (λ (v : ℕ). told (tryExtendIntervals b a (listAt line 3) (getD line 1 0) v)) (c .before .before .before .before .wide2 .ensures)
+          one-with line 3 (first .list-at .ensures) (lent-out .buffer .given .1) writtenWords (λ (l : List ℕ). tryExtendIntervals b a l (counted .wide .result) (noded .wide2 .result))
+          (lent line 3 (first .list-at .ensures) (lent-out .buffer .given .1) (room .record-room .result) (room .record-room .ensures) (omega arith) (copied .copy-out .ensures))
+          (made .extends-to .ensures .0)
+          ∙ ap (λ (n : ℕ). told (tryExtendIntervals b a (listAt line 3) n (noded .wide2 .result))) (counted .wide .ensures)
+          ∙ ap (λ (v : ℕ). told (tryExtendIntervals b a (listAt line 3) (getD line 1 0) v)) (noded .wide2 .ensures)
           ),
-      (λ _. c .before .before .before .extends-to .ensures .1),
+      (λ _. made .extends-to .ensures .1),
     )
 
 pub same-extension-spec : {M : Type 1} → statement M

@@ -30,10 +30,13 @@ returns c =
 returns-2 : tie.Need-returns-2
 unfolding sameNodes
 returns-2 c =
-    let start = c .before .before .before .before .before .before .before .before .before .before .args in
+    let second = c .before .before in
+    let listed = second .before .before in
+    let first = listed .before .before in
+    let start = first .before .before .before .before .args in
     let line = start .words .now in (
       nowhere (getD line (behind line 2) 0) 7680 _
-          (no-nodes line (behind line (behind line 2)) _ _ (omega (arith, lacks-second line 2 (c .before .before .before .before .before .before .list-at .ensures) (c .before .before .before .before .records .given .1) (c .before .before .list-at2 .ensures) (c .enum-told2 .given .1)))),
+          (no-nodes line (behind line (behind line 2)) _ _ (omega (arith, lacks-second line 2 (first .list-at .ensures) (listed .records .given .1) (second .list-at2 .ensures) (c .enum-told2 .given .1)))),
       not-true,
     )
 
@@ -43,9 +46,13 @@ sub-size c = let part = within _ _ (c .before .before .before .list-at2 .ensures
 returns-3 : tie.Need-returns-3
 unfolding sameNodes
 returns-3 c =
-    let start = c .before .before .before .before .before .before .before .before .before .before .before .before .args in
+    let lent-out = c .before .before in
+    let second = lent-out .before .before in
+    let listed = second .before .before in
+    let first = listed .before .before in
+    let start = first .before .before .before .before .args in
     let line = start .words .now in
-    (no-room (getD line (behind line 2) 0) 7680 _ (omega (arith, second-size line 2 (c .before .before .before .before .before .before .before .before .list-at .ensures) (c .before .before .before .before .before .before .records .given .1) (c .before .before .before .before .list-at2 .ensures) (c .before .before .buffer .given .1))), not-true)
+    (no-room (getD line (behind line 2) 0) 7680 _ (omega (arith, second-size line 2 (first .list-at .ensures) (listed .records .given .1) (second .list-at2 .ensures) (lent-out .buffer .given .1))), not-true)
 
 mul-copy-out : tie.Need-mul-copy-out
 mul-copy-out c = let part = within _ _ (c .before .before .before .before .before .list-at2 .ensures) (c .before .before .before .buffer .given .1) in search needs
@@ -61,47 +68,75 @@ part-copy-out-end c = let part = within _ _ (c .before .before .before .before .
 
 copy-out-requires : tie.Need-copy-out-requires
 copy-out-requires c κs =
-    let start = c .before .before .before .before .before .before .before .before .before .before .before .before .before .before .before .args in
+    let room = c .before .before in
+    let lent-out = room .before .before .before in
+    let second = lent-out .before .before in
+    let start = second .before .before .before .before .before .before .before .before .args in
     let line = start .words .now in
-    (omega (arith, part-length line _ (c .before .before .before .before .before .before .before .list-at2 .ensures) (c .before .before .before .before .before .buffer .given .1)), omega (arith, c .before .before .record-room .ensures))
+    (omega (arith, part-length line _ (second .list-at2 .ensures) (lent-out .buffer .given .1)), omega (arith, room .record-room .ensures))
 
 mul-nodes-into : tie.Need-mul-nodes-into
-mul-nodes-into c = let part = within _ _ (c .before .before .before .before .before .before .before .before .before .before .before .before .before .before .list-at .ensures) (c .before .before .before .before .before .before .before .before .before .before .before .before .records .given .1) in search needs
+mul-nodes-into c =
+    let listed = c .before .before .before .before .before .before .before .before .before .before .before .before in
+    let first = listed .before .before in
+    let part = within _ _ (first .list-at .ensures) (listed .records .given .1) in search needs
 
 sub-nodes-into : tie.Need-sub-nodes-into
-sub-nodes-into c = let part = within _ _ (c .before .before .before .before .before .before .before .before .before .before .before .before .before .before .list-at .ensures) (c .before .before .before .before .before .before .before .before .before .before .before .before .records .given .1) in search needs
+sub-nodes-into c =
+    let listed = c .before .before .before .before .before .before .before .before .before .before .before .before in
+    let first = listed .before .before in
+    let part = within _ _ (first .list-at .ensures) (listed .records .given .1) in search needs
 
 part-nodes-into-start : tie.Need-part-nodes-into-start
-part-nodes-into-start c = let part = within _ _ (c .before .before .before .before .before .before .before .before .before .before .before .before .before .before .list-at .ensures) (c .before .before .before .before .before .before .before .before .before .before .before .before .records .given .1) in search needs
+part-nodes-into-start c =
+    let listed = c .before .before .before .before .before .before .before .before .before .before .before .before in
+    let first = listed .before .before in
+    let part = within _ _ (first .list-at .ensures) (listed .records .given .1) in search needs
 
 part-nodes-into-end : tie.Need-part-nodes-into-end
-part-nodes-into-end c = let part = within _ _ (c .before .before .before .before .before .before .before .before .before .before .before .before .before .before .list-at .ensures) (c .before .before .before .before .before .before .before .before .before .before .before .before .records .given .1) in search needs
+part-nodes-into-end c =
+    let listed = c .before .before .before .before .before .before .before .before .before .before .before .before in
+    let first = listed .before .before in
+    let part = within _ _ (first .list-at .ensures) (listed .records .given .1) in search needs
 
 shared-slice-read-wide : tie.Need-shared-slice-read-wide
 shared-slice-read-wide c =
-    let start = c .before .before .before .before .before .before .before .before .before .before .before .before .before .before .before .before .before .before .before .before .args in
+    let listed = c .before .before .before .before .before .before .before .before .before .before .before .before .before .before in
+    let first = listed .before .before in
+    let start = first .before .before .before .before .args in
     let line = start .words .now in
-    let part = within _ _ (c .before .before .before .before .before .before .before .before .before .before .before .before .before .before .before .before .list-at .ensures) (c .before .before .before .before .before .before .before .before .before .before .before .before .before .before .records .given .1) in omega (arith, part .inside, ends line 2 (c .before .before .before .before .before .before .before .before .before .before .before .before .before .before .before .before .list-at .ensures) (c .before .before .before .before .before .before .before .before .before .before .before .before .before .before .records .given .1))
+    let part = within _ _ (first .list-at .ensures) (listed .records .given .1) in omega (arith, part .inside, ends line 2 (first .list-at .ensures) (listed .records .given .1))
 
 nodes-into-requires : tie.Need-nodes-into-requires
-nodes-into-requires c κs = let part = within _ _ (c .before .before .before .before .before .before .before .before .before .before .before .before .before .before .list-at2 .ensures) (c .before .before .before .before .before .before .before .before .before .before .before .before .buffer .given .1) in search needs
+nodes-into-requires c κs =
+    let lent-out = c .before .before .before .before .before .before .before .before .before .before .before .before in
+    let second = lent-out .before .before in
+    let part = within _ _ (second .list-at2 .ensures) (lent-out .buffer .given .1) in search needs
 
 returns-4 : tie.Need-returns-4
 unfolding sameNodes
 returns-4 c =
-    let start = c .before .before .before .before .before .before .before .before .before .before .before .before .before .before .before .before .before .before .before .before .before .before .before .before .before .before .args in
+    let made = c .before .before .before in
+    let counted = made .before .before in
+    let copied = counted .before .before .before .before .before in
+    let room = copied .before .before .before in
+    let lent-out = room .before .before .before in
+    let second = lent-out .before .before in
+    let listed = second .before .before in
+    let first = listed .before .before in
+    let start = first .before .before .before .before .args in
     let line = start .words .now in
     let b = start .map .now in
     let a = start .area .now in
     let told : LeftWith ℕ → Bool = λ l. same (drop (behind line (behind line 2)) line) (withList (countWords (l .answer)) (l .buffer)) in (
-      has-room (getD line (behind line 2) 0) 7680 _ (omega (arith, second-size line 2 (c .before .before .before .before .before .before .before .before .before .before .before .before .before .before .before .before .before .before .before .before .before .before .list-at .ensures) (c .before .before .before .before .before .before .before .before .before .before .before .before .before .before .before .before .before .before .before .before .records .given .1) (c .before .before .before .before .before .before .before .before .before .before .before .before .before .before .before .before .before .before .list-at2 .ensures) (c .before .before .before .before .before .before .before .before .before .before .before .before .before .before .before .before .buffer .given .1)))
+      has-room (getD line (behind line 2) 0) 7680 _ (omega (arith, second-size line 2 (first .list-at .ensures) (listed .records .given .1) (second .list-at2 .ensures) (lent-out .buffer .given .1)))
           (
-          two-with line 2 (c .before .before .before .before .before .before .before .before .before .before .before .before .before .before .before .before .before .before .before .before .before .before .list-at .ensures) (c .before .before .before .before .before .before .before .before .before .before .before .before .before .before .before .before .before .before .before .before .records .given .1) (c .before .before .before .before .before .before .before .before .before .before .before .before .before .before .before .before .before .before .list-at2 .ensures) (c .before .before .before .before .before .before .before .before .before .before .before .before .before .before .before .before .buffer .given .1) countWords (λ (l m : List ℕ). nodesInIntervals b a l (c .before .before .before .before .before .wide .result) m)
-          (lent line _ (c .before .before .before .before .before .before .before .before .before .before .before .before .before .before .before .before .before .before .list-at2 .ensures) (c .before .before .before .before .before .before .before .before .before .before .before .before .before .before .before .before .buffer .given .1) (c .before .before .before .before .before .before .before .before .before .before .before .before .before .record-room .result) (c .before .before .before .before .before .before .before .before .before .before .before .before .before .record-room .ensures) (omega arith) (c .before .before .before .before .before .before .before .before .before .before .copy-out .ensures))
-          (c .before .before .before .nodes-into .ensures .0)
-          ∙ ap (λ (n : ℕ). told (nodesInIntervals b a (listAt line 2) n (listAt line (behind line 2)))) (c .before .before .before .before .before .wide .ensures)
+          two-with line 2 (first .list-at .ensures) (listed .records .given .1) (second .list-at2 .ensures) (lent-out .buffer .given .1) countWords (λ (l m : List ℕ). nodesInIntervals b a l (counted .wide .result) m)
+          (lent line _ (second .list-at2 .ensures) (lent-out .buffer .given .1) (room .record-room .result) (room .record-room .ensures) (omega arith) (copied .copy-out .ensures))
+          (made .nodes-into .ensures .0)
+          ∙ ap (λ (n : ℕ). told (nodesInIntervals b a (listAt line 2) n (listAt line (behind line 2)))) (counted .wide .ensures)
           ),
-      (λ _. c .before .before .before .nodes-into .ensures .1),
+      (λ _. made .nodes-into .ensures .1),
     )
 
 pub same-nodes-spec : {M : Type 1} → statement M

@@ -44,20 +44,27 @@ part-is-convex-by-intervals-end : tie.Need-part-is-convex-by-intervals-end
 part-is-convex-by-intervals-end c = let part = within _ _ (c .before .before .before .before .before .before .list-at .ensures) (c .before .before .before .before .records .given .1) in search needs
 
 is-line-answer-requires : tie.Need-is-line-answer-requires
-is-line-answer-requires c κs = let part = within _ _ (c .before .before .before .before .before .before .before .before .before .before .list-at .ensures) (c .before .before .before .before .before .before .before .before .records .given .1) in search needs
+is-line-answer-requires c κs =
+    let listed = c .before .before .before .before .before .before .before .before in
+    let first = listed .before .before in
+    let part = within _ _ (first .list-at .ensures) (listed .records .given .1) in search needs
 
 returns-2 : tie.Need-returns-2
 unfolding sameRecordCheck isConvexByIntervals call
 returns-2 c =
-    let start = c .before .before .before .before .before .before .before .before .before .before .before .before .before .before .before .args in
+    let checked = c .before .before .before in
+    let counted = checked .before .before .before in
+    let listed = counted .before .before .before in
+    let first = listed .before .before in
+    let start = first .before .before .before .before .args in
     let line = start .words .now in
     let b = start .map .now in
     let a = start .area .now in
     let told : Left (Reply × ℕ) → Bool = λ l. same (drop (behind line 2) line) (lineWords (l .answer)) in (
-      one-list line 2 (c .before .before .before .before .before .before .before .before .before .before .before .list-at .ensures) (c .before .before .before .before .before .before .before .before .before .records .given .1) lineWords (λ (l : List ℕ). isConvexByIntervals b a l (c .before .before .before .before .before .before .wide .result)) (c .before .before .before .is-convex-by-intervals .ensures)
+      one-list line 2 (first .list-at .ensures) (listed .records .given .1) lineWords (λ (l : List ℕ). isConvexByIntervals b a l (counted .wide .result)) (checked .is-convex-by-intervals .ensures)
           (c .is-line-answer .ensures)
-          ∙ ap (λ (n : ℕ). told (isConvexByIntervals b a (listAt line 2) n)) (c .before .before .before .before .before .before .wide .ensures),
-      (λ _. ap (λ (l : Left (Reply × ℕ)). l .area) (c .before .before .before .is-convex-by-intervals .ensures)),
+          ∙ ap (λ (n : ℕ). told (isConvexByIntervals b a (listAt line 2) n)) (counted .wide .ensures),
+      (λ _. ap (λ (l : Left (Reply × ℕ)). l .area) (checked .is-convex-by-intervals .ensures)),
     )
 
 pub same-record-check-spec : {M : Type 1} → statement M
