@@ -61,7 +61,7 @@ uint64_t varddohas_topo_is_convex(const uint8_t *map, size_t map_bytes, uint8_t 
 
 /* Intervals of a list, as records of three words (line, lowest, highest position). count: the records written. NO: not contiguous.
  * Refusals 1 to 5, 7, 9, 10, 11. */
-#define VARDDOHAS_STACK_GET_INTERVALS_FROM_NODES 163840
+#define VARDDOHAS_STACK_GET_INTERVALS_FROM_NODES 147456
 uint64_t varddohas_get_intervals_from_nodes(const uint8_t *map, size_t map_bytes, uint8_t *area, size_t area_bytes,
                                             const uint8_t *list, size_t list_bytes, uint8_t *buffer, size_t buffer_bytes,
                                             uint64_t *count, uint64_t *number, uint64_t *place);

@@ -29,7 +29,7 @@ pub const TOPO_IS_NODE_CONVEX: usize = 135_168;
 pub const TOPO_IS_CONVEX: usize = 135_168;
 
 /// [`line_convex_checker::get_intervals_from_nodes`](crate::line_convex_checker::get_intervals_from_nodes)
-pub const GET_INTERVALS_FROM_NODES: usize = 163_840;
+pub const GET_INTERVALS_FROM_NODES: usize = 147_456;
 
 /// [`line_convex_checker::is_convex_by_intervals`](crate::line_convex_checker::is_convex_by_intervals)
 pub const IS_CONVEX_BY_INTERVALS: usize = 147_456;
