@@ -3,5 +3,3 @@ pub mod Placed
 pub mod Usable
 pub mod Recorded
 pub mod Answered
-pub mod UsableBy
-pub mod AnsweredBy
