@@ -1,4 +1,5 @@
 // What the calls answer, each a case, a refusal among them.
+#![tactic(auto)]
 use refusals::Refusal;
 
 // Preparing: how many lines there are.

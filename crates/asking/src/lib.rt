@@ -3,6 +3,7 @@
 // `next_list` the one for line i of the input; that these lines, in order, are all of paper's output is the law `output-is`, and that this is `ask` or
 // `why` say `ask-is` and `why-is` (proofs/Lines). No contract can say which bytes a program reads and writes: `run` reads both files once, and writes
 // each line as it is made.
+#![tactic(auto)]
 pub mod beginning;
 pub mod checks;
 pub mod replies;

@@ -1,4 +1,5 @@
 // The intervals of a list of nodes: collected one position at a time, and tested line by line.
+#![tactic(auto)]
 pub mod collect;
 pub mod filling;
 pub mod layout;

@@ -1,5 +1,6 @@
 // The links of a map laid once: its nodes' first ports and the links by output port, and behind them the links by input port, in the lent
 // area; and from them the steps that a node feeds.
+#![tactic(auto)]
 pub mod by_port;
 pub mod keys;
 

@@ -1,6 +1,7 @@
 // The stored cases of preparing. Standard input lists them, one a line: the file of a map, how many words the area has,
 // and the word that stands in each of them beforehand. `differential/record --prepare` makes the list, the maps and the
 // output to expect, which is what the Rust prepares.
+#![tactic(auto)]
 pub mod list;
 mod report;
 

@@ -1,4 +1,5 @@
 // Runs the stored cases of preparing.
+#![tactic(auto)]
 fn main() {
     prepare_cases::run();
 }

@@ -1,6 +1,7 @@
 // The stored cases of `ask` and `why`. Standard input lists them, one a line: the program, the file of a map, the file that is read for standard
 // input, and what the case shows. Each is run by the whole path of its program; its line stands before what the program prints, and an empty line
 // after it.
+#![tactic(auto)]
 use asking::Program;
 use libc::STDOUT_FILENO;
 use prepare_cases::list::{next_line, next_word, word_end};

@@ -1,5 +1,6 @@
 // Recorded answers, replayed: `answers.txt` has a question and its answer on each line, in decimal numbers, and its head says how it was made and
 // what its lines mean. Answers are the Rust's, refusals a plain reading of 01. Every call is asked again, and its answer held against the recorded one.
+#![tactic(auto)]
 mod lent;
 mod turns;
 

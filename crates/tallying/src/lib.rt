@@ -1,4 +1,5 @@
 // How many lines of each kind there are, and how many differ.
+#![tactic(auto)]
 ghost use Rattle.std.specs.Prelude.{◌≡◌, length};
 
 use libc::STDOUT_FILENO;
