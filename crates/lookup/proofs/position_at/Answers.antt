@@ -1,0 +1,20 @@
+use Rattle.std.proofs.Common.{arith, ◌<◌, ◌∙◌}
+use Rattle.std.proofs.Common.{ℕ, ◌<◌, length, get_or, sym, ap, ◌∙◌, arith}
+use Rattle.lookup.proofs.Along.{along-is}
+use Rattle.lookup.proofs.position_at.Goals as goal
+
+-- a line's node has a position
+node-known : (s : tie.After-wide) → s.wide.result < length s.before.before.before.before.args.positions.now
+node-known s =
+    let start = s.before.before.before.before in
+    omega (arith, s.wide.ensures, start.requires.0.known start.args.i start.requires.1)
+
+pub offset_bounds-positions-wide : goal.offset_bounds-positions-wide
+offset_bounds-positions-wide c = omega (arith, node-known c)
+
+pub bounds-positions-wide : goal.bounds-positions-wide
+bounds-positions-wide c = node-known c
+
+pub returns : goal.returns
+returns c = let holds = c.wide-2.ensures ∙ ap (λ (v : ℕ). get_or c.args.positions.now v 0) c.wide.ensures in
+    record { value = holds ∙ sym (along-is c.args.nodes.now c.args.positions.now c.args.i c.requires.i_in_bounds); upper_bound = omega (arith, c.wide-2.ensures, c.type_inv.positions c.wide.result) }

@@ -1,0 +1,6 @@
+use Rattle.std.proofs.Common.{◌∙◌}
+use Rattle.stepmap.proofs.Fields.{in_field}
+use Rattle.stepmap.proofs.access.link_in.Goals as goal
+
+pub returns : goal.returns
+returns c = c.number_at.ensures ∙ in_field _ _ _ c.requires.nodes

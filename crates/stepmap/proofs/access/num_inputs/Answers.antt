@@ -1,0 +1,6 @@
+use Rattle.paper.specs.Map.{ins}
+use Rattle.stepmap.proofs.access.num_inputs.Goals as goal
+
+pub returns : goal.returns
+unfolding ins
+returns c = c.number_at.ensures

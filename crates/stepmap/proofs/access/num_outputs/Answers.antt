@@ -1,0 +1,6 @@
+use Rattle.paper.specs.Map.{outs}
+use Rattle.stepmap.proofs.access.num_outputs.Goals as goal
+
+pub returns : goal.returns
+unfolding outs
+returns c = c.number_at.ensures

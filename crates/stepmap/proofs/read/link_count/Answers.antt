@@ -1,0 +1,6 @@
+use Rattle.paper.specs.Map.{trailer, L}
+use Rattle.stepmap.proofs.read.link_count.Goals as goal
+
+pub returns : goal.returns
+unfolding trailer L
+returns c = c.number_at.ensures

@@ -1,0 +1,20 @@
+use Rattle.std.proofs.Common.{ap, sym, ◌≡◌}
+use Rattle.refusals.specs.Said.{ruling}
+use Rattle.stepmap.specs.Said.{map_said}
+use Rattle.stepmap.specs.declared.read.StepMap.{StepMap}
+use Rattle.stepmap.proofs.read.map_refusal.Goals as goal
+
+same : {r s : StepMap} → r ≡ s → ruling (map_said s) ≡ ruling (map_said r)
+same e = ap (λ (r : StepMap). ruling (map_said r)) (sym e)
+
+pub never-requires : goal.never-requires
+unfolding ruling
+never-requires c = c.requires (sym (same c.enum_told-1.given.1))
+
+pub returns-in_default : goal.returns-in_default
+unfolding ruling
+returns-in_default c = absurd (c.requires (sym (same c.enum_told-1.given.1)))
+
+pub returns : goal.returns
+unfolding ruling
+returns c = same c.read-1.given.1

@@ -1,0 +1,13 @@
+use Rattle.std.proofs.Common.{arith}
+use Rattle.lists.specs.Ascii.{ascii}
+use Rattle.paper.specs.Text.{decimal, show_refused}
+use Rattle.text.proofs.Printed.{put_both, decimal-short}
+use Rattle.text.proofs.printer.put_refused.Goals as goal
+
+pub put_numbered-requires : goal.put_numbered-requires
+put_numbered-requires c = omega (arith, decimal-short c.args.number)
+
+pub returns : goal.returns
+unfolding show_refused
+returns c =    put_both (ascii " ") (decimal c.args.place) c.put_numbered-placed.ensures
+    c.put_numbered.ensures

@@ -1,0 +1,19 @@
+use mathlib.Core.List.{flat_map}
+use Rattle.std.proofs.Common.{ap, refl, rules, take_all, ◌∙◌}
+use Rattle.paper.specs.Words.{bytes_from, put_words}
+use Rattle.words.proofs.Turns.{put_again}
+use Rattle.words.proofs.bytes.put_words.Goals as goal
+
+pub loop-i-init : goal.loop-i-init
+unfolding put_words bytes_from flat_map
+loop-i-init c = (search rules, refl, refl)
+
+pub loop-i-preserved : goal.loop-i-preserved
+loop-i-preserved c = (
+  search rules,
+  search rules,
+  c.put_field.ensures ∙ put_again _ _ _ (search rules) c.loop-i.invariant.2,
+)
+
+pub returns : goal.returns
+returns c = c.loop-i.invariant.2 ∙ ap (put_words _) (take_all _ _ c.loop-i-test.false)
