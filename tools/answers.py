@@ -25,14 +25,27 @@ def canon(name):
     return name.replace("-", "_")
 
 
+def passed_on(kit, module, seen):
+    """Each name that a module of the library passes on, with the module that declares it."""
+    if module in seen:
+        return seen[module]
+    seen[module] = {}
+    steps = module.split(".")
+    path = os.path.join(kit, "rattle", steps[1], *steps[2:]) + ".antt" if steps[0] == "Rattle" else ""
+    if os.path.exists(path):
+        for source, names in re.findall(r"pub use ([^\s{]+)\.\{([^}]*)\}", open(path).read()):
+            further = passed_on(kit, source, seen)
+            for n in names.split(","):
+                first, last = n.strip().split(" as ")[0], n.strip().split(" as ")[-1]
+                seen[module][last] = further.get(first, source)
+    return seen[module]
+
+
 def common_names():
     global COMMON
     if COMMON is None:
         kit = os.path.dirname(subprocess.run(["rt", "doc"], capture_output=True, text=True).stdout.strip())
-        text = open(os.path.join(kit, "rattle/std/proofs/Common.antt")).read()
-        COMMON = set()
-        for names in re.findall(r"\.\{([^}]*)\}", text):
-            COMMON |= {n.strip().split(" as ")[-1] for n in names.split(",")}
+        COMMON = passed_on(kit, "Rattle.std.proofs.Common", {})
     return COMMON
 
 
@@ -72,6 +85,8 @@ def clauses_of():
 
 
 CLAUSES = {}
+# The records' own fields that tools/respell.py turned.
+FIELDS = {}
 
 
 def clause_names(function, kind):
@@ -96,6 +111,14 @@ class Proof:
         for typed in data["typed"]:
             for variable, step in typed:
                 self.known[canon(step)] = variable
+        # what an arm's pattern binds and says, by the old step and its path there
+        self.arms = {}
+        for arm in data["arms"]:
+            if arm:
+                for field, step, path in arm[2]:
+                    if path:
+                        field = "ensures" if field.endswith("-ensures") else field
+                        self.arms.setdefault((canon(step), tuple(path)), (arm[0], field))
         self.loops = [(l[0], l[1], ch) for l, ch in zip(data["loops"], data["changed"])]
         self.helpers = {}
         self.bad = []
@@ -108,37 +131,55 @@ class Proof:
         """Old fields below c, with no 'before' among them, as new text below c."""
         if not fields:
             return ""
-        head, rest = fields[0], fields[1:]
-        out = []
+        head, rest = fields[0].replace("well-formed", "well_formed"), fields[1:]
+        fields = [head] + rest
         if head in ("args", "ranges", "lifetimes", "well_formed", "auto"):
             return "." + ".".join(fields)
         if head == "requires":
-            names = clause_names(self.function, "requires")
-            if names:
-                if rest and rest[0].isdigit():
-                    return "." + ".".join(["requires", names[int(rest[0])]] + rest[1:])
-                if not rest:
-                    return ("tuple", [".requires." + n for n in names])
-            return "." + ".".join(fields)
-        new = self.steps.get(canon(head))
+            return self.clauses(["requires"], clause_names(self.function, "requires"), [FIELDS.get(r, r) for r in rest])
+        for n in range(len(rest), 0, -1):
+            if (canon(head), tuple(rest[:n])) in self.arms:
+                arm, field = self.arms[canon(head), tuple(rest[:n])]
+                return "." + ".".join([arm, field] + rest[n:])
+        new = self.steps.get(canon(head)) or self.steps.get(canon(head).lower()) or self.steps.get(canon(re.sub("_lem$", "", head)))
+        rest = [FIELDS.get(r, r) for r in rest]
         if canon(head) in self.known and rest[:1] == ["given"]:
             return "." + ".".join(["type_inv", self.known[canon(head)]] + rest[1:])
         if new is None:
             self.note(f"no step {head}")
             return "." + ".".join(fields)
+        if rest and rest[0] == "auto" and new in self.callee and len(rest) > 1 and rest[1] in ("0", "1"):
+            names = self.data["params"].get(self.callee[new], [])
+            ones = 0
+            while ones + 1 < len(rest) and rest[ones + 1] == "1":
+                ones += 1
+            if ones < len(names):
+                return "." + ".".join([new, "auto", names[ones]] + rest[ones + 2 :])
         if rest and rest[0] == "ensures" and new in self.callee:
-            names = clause_names(self.callee[new], "ensures")
-            if names:
-                if len(rest) > 1 and rest[1].isdigit():
-                    rest = ["ensures", names[int(rest[1])]] + rest[2:]
-                elif len(rest) == 1:
-                    return ("tuple", [f".{new}.ensures.{n}" for n in names])
+            return self.clauses([new, "ensures"], clause_names(self.callee[new], "ensures"), rest[1:])
         return "." + ".".join([new] + rest)
+
+    def clauses(self, head, names, rest):
+        """Clauses were a nest of pairs, and go by name."""
+        if not names:
+            return "." + ".".join(head + rest)
+        i, used = 0, 0
+        while i < len(names) - 1 and used < len(rest) and rest[used] in ("0", "1"):
+            used += 1
+            if rest[used - 1] == "0":
+                return "." + ".".join(head + [names[i]] + rest[used:])
+            i += 1
+        if i == len(names) - 1:
+            return "." + ".".join(head + [names[i]] + rest[used:])
+        return ("tuple", ["." + ".".join(head + [n]) for n in names[i:]])
 
     def path(self, fields):
         made = self.fields([f for f in fields if f != "before"])
         if isinstance(made, tuple):
-            return "(" + ", ".join("c" + m for m in made[1]) + ")"
+            text = "c" + made[1][-1]
+            for m in reversed(made[1][:-1]):
+                text = f"(c{m}, {text})"
+            return text
         return "c" + made
 
     def term(self, text, roots=("c",)):
@@ -156,19 +197,11 @@ class Proof:
                 at = m.start()
             else:
                 at = m.end()
-        # a let of a tuple's first bindings, as 'let a = c.x; b = a.y in'
-        many = re.compile(r"(let\s+|;\s*)(" + WORD + r")\s+=\s+(" + WORD + r")((?:\." + WORD + r")*)\s*(;|\bin\b)")
-        for m in many.finditer(text):
-            if m[3] in aliases and m[2] not in aliases:
-                self.note(f"let of several: {m[2]}")
         # helpers on a step
         for h in self.helpers:
-            text = re.sub(
-                r"\((" + re.escape(h) + r") (" + "|".join(map(re.escape, aliases)) + r")((?:\." + WORD + r")*)\)", r"\1", text
-            )
-            text = re.sub(
-                r"(?<![\w.'-])(" + re.escape(h) + r") (" + "|".join(map(re.escape, aliases)) + r")((?:\." + WORD + r")*)(?![\w.'-])", r"\1", text
-            )
+            step = "(?:" + "|".join(map(re.escape, aliases)) + r")(?:\." + WORD + r")*"
+            call = re.escape(h) + " " + step
+            text = re.sub(r"(?<![\w.'₀-₉-])(?:\(" + call + r"\)|" + call + r"(?![\w.'-]))", h, text)
 
         def turn(m):
             root, fields = m[1], [f for f in m[2].split(".") if f]
@@ -176,7 +209,11 @@ class Proof:
                 return m[0]
             return self.path(aliases[root] + fields)
 
-        return re.sub(r"(?<![\w.'₀-₉-])(" + WORD + r")((?:\.(?:" + WORD + r"))*)", turn, text)
+        text = re.sub(r"(?<![\w.'₀-₉-])(" + WORD + r")((?:\.(?:" + WORD + r"))*)", turn, text)
+        # a negated test says now that its operand is false
+        text = re.sub(r"\(not-(?:true|false) _ (c\.if-[^\s()]+)\)", r"\1", text)
+        text = re.sub(r"\bnot-(?:true|false) _ (c\.if-[^\s()]+)", r"\1", text)
+        return re.sub(r"\(not-(?:true|false) _ (c\.[^\s()]*-test\.(?:true|false))\)", r"\1", text)
 
     # ---- declarations
     def parse(self, text):
@@ -238,6 +275,11 @@ class Proof:
 
     def convert(self):
         text = open(self.folder + "/Proof.antt").read()
+        landed = open("docs/PORT.md").readline().strip()
+        older = subprocess.run(["git", "show", f"{landed}:{self.folder}/Proof.antt"], capture_output=True, text=True).stdout
+        older = re.findall(r"tie ?\.Need-(" + WORD + ")", older)
+        newer = re.findall(r"tie\.Need-(" + WORD + ")", text)
+        self.older = dict(zip(newer, older)) if len(older) == len(newer) else {}
         decls = self.parse(text)
         uses, head, others = [], "", []
         invariants, answers, helper_text = [], {}, []
@@ -255,7 +297,7 @@ class Proof:
                 invariants.append((comment, name, chunk))
             elif re.match(r"(?:pub )?" + re.escape(name or "") + r"\s*:\s*tie\.Need-", chunk):
                 by_name[name] = (comment, chunk)
-            elif name == "module" or re.search(r"\(?c : tie\.", chunk):
+            elif name == "module" or re.search(r"\((\w+) : tie\.(After|In|At|Start|Both)", chunk):
                 helper_text.append((comment, name, chunk))
             else:
                 others.append((comment, name, chunk))
@@ -265,16 +307,17 @@ class Proof:
         inner = spec[spec.index("tie.spec") + 8 :].rstrip()
         inner = inner[:-1] if inner.endswith(")") else inner
         args = self.split_args(inner)
-        args = args[len(args) - len(needs) :] if len(args) >= len(needs) else None
+        heads = 2 * len(self.loops)
+        args = args[heads:] if len(args) == len(needs) + heads else None
         self.collect_helpers(helper_text)
         by_need = {}
         for old, new in needs:
             by_need.setdefault(canon(old), new)
         for old, new in needs:
             by_need.setdefault(canon(new), new)
-        if args is None:
-            self.note("fewer answers than goals")
         used = set()
+        if args is None and "(λ" in re.sub(r"\(λ c(?: κs)?\. search rules\)", "", inner):
+            self.note("goals and answers do not pair, and some stand inline")
         if args is not None:
             for arg, (old, new) in zip(args, needs):
                 if arg in by_name:
@@ -295,7 +338,10 @@ class Proof:
         for name, (comment, chunk) in by_name.items():
             if name not in used:
                 need = re.search(r"tie\.Need-(" + WORD + ")", chunk)[1]
-                new = by_need.get(canon(need))
+                olds = {canon(o): n for o, n in reversed(needs)}
+                news = {canon(n): n for o, n in needs}
+                was = canon(self.older.get(need, need))
+                new = olds.get(canon(need)) or olds.get(was) or news.get(canon(need)) or news.get(was)
                 if new is None:
                     self.note(f"goal {need} unknown")
                 else:
@@ -317,7 +363,7 @@ class Proof:
     def collect_helpers(self, texts):
         for comment, name, chunk in texts:
             if name == "module":
-                m = re.match(r"module _ \((\w+) : tie\.\S+?\) where\n(.*)", chunk, re.S)
+                m = re.match(r"module _ \((\w+) : tie\.[^()]+\) where\n(.*)", chunk, re.S)
                 if not m:
                     self.note("a module with other parameters")
                     continue
@@ -325,7 +371,7 @@ class Proof:
                 for _, n, d in self.parse(body):
                     self.helper(n, d, m[1], True)
             else:
-                m = re.search(r"\((\w+) : tie\.\S+?\)", chunk)
+                m = re.search(r"\((\w+) : tie\.[^()]+\)", chunk)
                 self.helper(name, chunk, m[1] if m else "c", False)
 
     def helper(self, name, chunk, root, sectioned):
@@ -337,36 +383,50 @@ class Proof:
         if sig[2]:
             self.note(f"helper {name} unfolds {sig[2].strip()}")
         if not sectioned:
-            t = re.match(r"\(" + root + r" : tie\.\S+?\)\s*→\s*(.*)", type_, re.S)
-            if not t or len(params) != 1:
+            t = re.match(r"\(" + root + r" : tie\.[^()]+\)\s*→\s*(.*)", type_, re.S)
+            if not t or not params:
                 self.note(f"helper {name} takes more")
                 return
-            type_, root = t[1], params[0]
-            type_ = re.sub(r"(?<![\w.'-])c(?=\.)", root, type_)
+            type_ = re.sub(r"(?<![\w.'-])" + re.escape(root) + r"(?=[.\s)]|$)", params[0], t[1])
+            root = params[0]
+            if len(params) > 1:
+                self.helpers[name] = (type_, " λ " + " ".join(params[1:]) + ". (" + sig[4].strip() + ")", root)
+                return
         elif params:
             self.note(f"helper {name} takes {params}")
         self.helpers[name] = (type_, sig[4].strip("\n"), root)
 
+    def parts(self, text):
+        """The parts of a tuple."""
+        text = text.strip()
+        if not text.startswith("("):
+            return []
+        parts, depth, cur = [], 0, ""
+        for i, ch in enumerate(text):
+            if ch in ")]}":
+                depth -= 1
+                if depth == 0 and i < len(text) - 1:
+                    return []
+            if ch == "," and depth == 1:
+                parts.append(cur.strip())
+                cur = ""
+            elif depth >= 1:
+                cur += ch
+            if ch in "([{":
+                depth += 1
+        if cur.strip():
+            parts.append(cur.strip())
+        return parts
+
     # ---- writing
     def as_record(self, body, names):
         """A tuple at the end of a body as a record of clauses."""
-        lets = ""
         rest = body.strip()
-        m = re.match(r"((?:let\s.*?\sin\s+)*)\((.*)\)$", rest, re.S)
+        m = re.match(r"((?:let\s.*?\sin\s+)*)(\(.*\))$", rest, re.S)
         if m:
-            parts, depth, cur = [], 0, ""
-            for ch in m[2]:
-                if ch in "([{":
-                    depth += 1
-                if ch in ")]}":
-                    depth -= 1
-                if ch == "," and depth == 0:
-                    parts.append(cur.strip())
-                    cur = ""
-                else:
-                    cur += ch
-            if cur.strip():
-                parts.append(cur.strip())
+            parts = self.parts(m[2])
+            while parts and len(parts) < len(names) and len(self.parts(parts[-1])) > 1:
+                parts = parts[:-1] + self.parts(parts[-1])
             if len(parts) == len(names):
                 return m[1] + "record { " + "; ".join(f"{n} = {p}" for n, p in zip(names, parts)) + " }"
         return None
@@ -390,6 +450,7 @@ class Proof:
             (_, new), variables, changed = found[0]
             moved = [v for v, ch in zip(variables, changed) if ch]
             want = [("l.initial." if ch else "l.") + v for v, ch in zip(variables, changed)] + ["l." + v for v in moved]
+            params = [q for q in params if not re.fullmatch(r"t\d+₀?", q)] if len(params) > len(want) else params
             if len(params) != len(want):
                 self.note(f"loop {loop}: {len(params)} variables, and not {len(want)}: {params} / {want}")
                 continue
@@ -418,7 +479,11 @@ class Proof:
                 type_, hbody, hroot = self.helpers[h]
                 lets += f"    let {h} : {' '.join(self.term(type_, (hroot,)).split())} = {self.term(hbody, (hroot,)).strip()} in\n"
             names = []
-            if need.startswith("returns"):
+            old = [o for o, n in self.data["needs"] if n == need]
+            asked = self.data["asked"].get(need) or (self.data["asked"].get(old[0]) if old else None)
+            if asked and len(asked) > 1:
+                names = asked
+            elif need.startswith("returns"):
                 names = own_ens
             else:
                 m = re.match(r"(.*)-requires(-\d+)?$", need)
@@ -429,8 +494,9 @@ class Proof:
             if names:
                 rec = self.as_record(body, names)
                 if rec is None:
-                    rec = f"let all = {body.strip()} in record {{ " + "; ".join(f"{n} = all.{i}" for i, n in enumerate(names)) + " }"
-                    self.note(f"{need}: clauses by place: write the type of 'all'")
+                    place = lambda i: ".1" * i + (".0" if i < len(names) - 1 else "")
+                    rec = f"let all = {body.strip()} in record {{ " + "; ".join(f"{n} = all{place(i)}" for i, n in enumerate(names)) + " }"
+                    self.note(f"{need}: clauses by place, from one term")
                 body = " " + rec
             if lets:
                 body = "\n" + lets + "    " + body.strip()
@@ -477,7 +543,7 @@ class Proof:
                 continue
             names = [n for n in names if is_used(n)]
             if module.startswith(LIBRARIES):
-                moved = {n for n in names if n in common_names() and n not in unfolded}
+                moved = {n for n in names if common_names().get(n) == module and n not in unfolded}
                 common |= moved
                 names = [n for n in names if n not in moved]
             if names:
@@ -498,6 +564,8 @@ class Proof:
 def main():
     global CLAUSES
     CLAUSES = clauses_of()
+    if os.path.exists("/tmp/table_final.txt"):
+        FIELDS.update(l.split() for l in open("/tmp/table_final.txt") if ":" not in l and len(l.split()) == 2)
     for crate in sys.argv[1:]:
         proofs = sorted(glob.glob(f"crates/{crate}/proofs/**/Proof.antt", recursive=True))
         if not proofs:

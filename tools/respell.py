@@ -71,7 +71,7 @@ def main():
         found = set(DECLARED.findall(text))
         declared |= found
         if not PROOF.search(f):
-            lemmas |= {n for n in found if "-" in n}
+            lemmas |= {n for n in found if "-" in n and n != "not-true"}
             if "/specs/" in f:
                 names |= {snake(n) for n in ABBREV.findall(text) if "-" not in n}
     table = {}

@@ -1,5 +1,6 @@
 // What the calls answer, each a case, a refusal among them.
 #![tactic(auto)]
+
 use refusals::Refusal;
 
 // Preparing: how many lines there are.

@@ -4,7 +4,7 @@ use Prim.Native.Nat.{ℕ, ◌+◌, ◌-◌, ◌*◌, ◌≤◌, ◌<◌}
 use native.Mathlib.Decide.{ℕ_discrete}
 use native.Mathlib.Numerals.{add-one}
 use native.Mathlib.Omega.{arith}
-use borrow.Author.Tests.{not_true, not-false}
+use borrow.Author.Tests.{not-true, not-false}
 use mathlib.Core.Path.{◌≡◌, sym, ap, ap₂, ◌∙◌, subst, subst₂}
 use mathlib.Core.Logic.{◌⊎◌, inl, inr}
 use mathlib.Core.Bool.{Bool, true, false, not}
@@ -158,7 +158,7 @@ module _ {b a : List ℕ} {at : Layout} (usable : Usable b a at) {slots : LineSl
         unfolding records_in
         stopped_record e =
             record {
-              says = sym (extend_not b a q x (record_at room) slot slot-line (grew_along.stops (not_true grown e)) 0 made (omega arith) (omega (arith, slot-made)) earlier);
+              says = sym (extend_not b a q x (record_at room) slot slot-line (grew_along.stops (not-true grown e)) 0 made (omega arith) (omega (arith, slot-made)) earlier);
               changed = λ count f. absurd (let z : ◌≡◌ {A = ℕ} 0 1 = cc in omega arith);
               long = grew.long;
             }

@@ -2,7 +2,7 @@
 -- lies before it asks what comes next; that is 01's order, since the lowest is no higher than the highest. Rests on Next and Putting.
 use Prim.Native.Nat.{ℕ, ◌+◌, ◌*◌, ◌≤◌, ◌<◌}
 use native.Mathlib.Omega.{arith}
-use borrow.Author.Tests.{le-leb, lt-leb, not_true, not-false}
+use borrow.Author.Tests.{le-leb, lt-leb, not-true, not-false}
 use mathlib.Core.Path.{◌≡◌, refl, sym, ap, ap₂, ◌∙◌, subst}
 use mathlib.Core.Bool.{Bool, true, false, not, ◌&&◌, cond, true≢false}
 use mathlib.Core.List.{List, ◌∷◌}
@@ -66,7 +66,7 @@ module _ (line room : List ℕ) (i p : ℕ) {x low high : ℕ} (is_line : x ≡ 
 
       pub below_not : not t ≡ true → Grew line room i p false room
       unfolding outcome
-      below_not e = stopped (below false (not_true t e))
+      below_not e = stopped (below false (not-true t e))
 
       pub below_next : not t ≡ false → {after : List ℕ} → Put room i (record_of x p high) after → Grew line room i p true after
       unfolding outcome
@@ -82,7 +82,7 @@ module _ (line room : List ℕ) (i p : ℕ) {x low high : ℕ} (is_line : x ≡ 
 
       pub above_not : not t ≡ true → Grew line room i p false room
       unfolding outcome
-      above_not e = stopped (above false (not_true t e))
+      above_not e = stopped (above false (not-true t e))
 
       pub above-next : not t ≡ false → {after : List ℕ} → Put room i (record_of x low p) after → Grew line room i p true after
       unfolding outcome

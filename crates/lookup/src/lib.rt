@@ -1,6 +1,7 @@
 // Translated from src/algorithms/convex/line_convex_checker.rs of portgraph (88172a3c8e, Apache-2.0, see NOTICE), and changed: `find_index`
 // takes a line as the part of an area that holds its nodes, its loop is a function of its own, and the loop returns where the source's has no end.
 #![tactic(auto)]
+
 pub mod guess;
 
 ghost use Rattle.std.specs.Prelude.{◌≡◌, ◌-◌, ◌<◌, true, length, nat_lt, slice_index};

@@ -7,7 +7,7 @@ use mathlib.Core.Logic.{◌⊎◌, inl, inr}
 use mathlib.Core.Bool.{Bool, true, false, ◌&&◌, ◌||◌, cond, or-true, false≢true}
 use mathlib.Core.List.{List, [], ◌∷◌, ◌++◌, map}
 use lib.Dec.{eqb}
-use borrow.Author.Tests.{eqb-true, eq-eqb, ne_eqb, not_true}
+use borrow.Author.Tests.{eqb-true, eq-eqb, ne_eqb, not-true}
 use Rattle.lists.specs.Lists.{upto, any, keep, member}
 use Rattle.lists.specs.Found.{Found, absent, at, or_else, placed, first, front, is_at}
 use Rattle.lists.proofs.AllAny.{any_true, any_false}
@@ -67,7 +67,7 @@ module _ (b : List ℕ) (q : ℕ) where
       (record {
         known = known;
         passes = here;
-        fail = λ j h. none_at (touches b q) (not_true (any (touches b q) (upto k)) free) (upto_at j k h);
+        fail = λ j h. none_at (touches b q) (not-true (any (touches b q) (upto k)) free) (upto_at j k h);
       })
 
 -- ---- the two ends of a link

@@ -10,7 +10,7 @@ use mathlib.Core.List.{List, [], ◌∷◌, ◌++◌}
 use lib.Dec.{eqb, leb}
 use lib.ListN.{length, get_or, set, take, replicate, length-replicate}
 use lib.Seq.{sets, take-suc, take_all}
-use borrow.Author.Tests.{ltb-true, ltb-false, lt-leb, le-leb, eq-eqb, ne_eqb, not-false, not_true}
+use borrow.Author.Tests.{ltb-true, ltb-false, lt-leb, le-leb, eq-eqb, ne_eqb, not-false, not-true}
 use Rattle.lists.specs.Lists.{member}
 use Rattle.lists.specs.Found.{Found, absent, at, first}
 use Rattle.lists.proofs.First.{first-is, first_next, first_absent}
@@ -97,7 +97,7 @@ module _ (a : List ℕ) (marks p : ℕ) (room : marks + p ≤ length a) {filled 
         }
       where
         is_unknown : found ≡ false
-        is_unknown = not_true found bad
+        is_unknown = not-true found bad
 
         untouched : after ≡ m
         untouched = one.left ∙ ap (λ (t : Bool). cond t (set m (marks + x) 1) m) is_unknown

@@ -21,8 +21,8 @@ use Rattle.recorded.specs.declared.line_parts.Part.{Part}
 use Rattle.recorded.specs.declared.line_parts.Part.TheVariants.{Words, Missing}
 
 -- what is never true asks nothing
-pub not_true : {A : Type 0} → false ≡ true → A
-not_true e = let impossible : ◌≡◌ {A = ℕ} 0 1 = ap one e in absurd (omega arith)
+pub not-true : {A : Type 0} → false ≡ true → A
+not-true e = let impossible : ◌≡◌ {A = ℕ} 0 1 = ap one e in absurd (omega arith)
 
 -- ---- past the line's end there is no answer
 

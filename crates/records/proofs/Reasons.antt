@@ -3,7 +3,7 @@
 use Prim.Native.Nat.{ℕ, ◌+◌, ◌*◌, ◌≤◌, ◌<◌}
 use native.Mathlib.Decide.{dec_lt}
 use native.Mathlib.Omega.{arith}
-use borrow.Author.Tests.{le-leb, lt-leb, leb-false, ltb-false, eq-eqb, ne_eqb, not_true, not-false}
+use borrow.Author.Tests.{le-leb, lt-leb, leb-false, ltb-false, eq-eqb, ne_eqb, not-true, not-false}
 use mathlib.Core.Path.{◌≡◌, refl, sym, ap, ap₂, ◌∙◌}
 use mathlib.Core.Bool.{Bool, true, false, not, ◌&&◌, ◌||◌, and-false, or-true}
 use mathlib.Core.List.{List, map}
@@ -101,11 +101,11 @@ module _ (b a words : List ℕ) (i : ℕ) {x low high : ℕ} (line : x ≡ get_o
 
   pub low_off : {on : Bool} → on ≡ on_line b a x low → not on ≡ true → true ≡ bad_record b a words i
   low_off {on} is e =
-      third _ _ _ _ (ap (λ (t : Bool). not (t && on_line b a x high)) (sym is ∙ not_true on e)) ∙ by_reasons
+      third _ _ _ _ (ap (λ (t : Bool). not (t && on_line b a x high)) (sym is ∙ not-true on e)) ∙ by_reasons
 
   pub high_off : {on : Bool} → on ≡ on_line b a x high → not on ≡ true → true ≡ bad_record b a words i
   high_off {on} is e =
-      third _ _ _ _ (ap (λ (t : Bool). not (on_line b a x low && t)) (sym is ∙ not_true on e) ∙ ap not (and-false (on_line b a x low))) ∙ by_reasons
+      third _ _ _ _ (ap (λ (t : Bool). not (on_line b a x low && t)) (sym is ∙ not-true on e) ∙ ap not (and-false (on_line b a x low))) ∙ by_reasons
 
   -- all but the last reason are out
   pub order_decides : x < K b a → used_before words i x ≡ false → {on up : Bool} → on ≡ on_line b a x low → not on ≡ false

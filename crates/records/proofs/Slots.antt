@@ -2,7 +2,7 @@
 -- Rests on Slots' definitions and paper's Area (how long an area is).
 use Prim.Native.Nat.{ℕ, ◌+◌, ◌*◌, ◌≤◌, ◌<◌}
 use native.Mathlib.Omega.{arith}
-use borrow.Author.Tests.{le-leb, lt-leb, ne_eqb, not_true, not-false}
+use borrow.Author.Tests.{le-leb, lt-leb, ne_eqb, not-true, not-false}
 use mathlib.Core.Path.{◌≡◌, sym, ap, ap₂, ◌∙◌, subst}
 use mathlib.Core.Logic.{◌⊎◌, inl, inr}
 use mathlib.Core.Bool.{Bool, true, false, not, ◌&&◌}
@@ -72,7 +72,7 @@ module _ (a words : List ℕ) (at : Layout) (slots : LineSlots) (v : ℕ) {lines
 
     pub nowhere_inside : not inner ≡ true → false ≡ straddles_here a words at slots v
     unfolding straddles_here
-    nowhere_inside e = ap (λ (t : Bool). t && outside_here a words at slots v) (sym (not_true inner e) ∙ node-inside)
+    nowhere_inside e = ap (λ (t : Bool). t && outside_here a words at slots v) (sym (not-true inner e) ∙ node-inside)
 
     pub somewhere_inside : not inner ≡ false → {outer : Bool} → outer ≡ any (λ x. not (inside_slot a words slots q x)) lines
         → outer ≡ straddles_here a words at slots v

@@ -4,7 +4,7 @@ use Prim.Native.Nat.{ℕ, ◌+◌, ◌*◌, ◌≤◌, ◌<◌}
 use native.Mathlib.Decide.{ℕ_discrete}
 use native.Mathlib.Omega.{arith}
 use borrow.Author.Count.{below_more}
-use borrow.Author.Tests.{not_true, not-false}
+use borrow.Author.Tests.{not-true, not-false}
 use mathlib.Core.Path.{◌≡◌, refl, sym, ap, ◌∙◌, subst}
 use mathlib.Core.Logic.{◌⊎◌, inl, inr}
 use mathlib.Core.Bool.{Bool, true, false, not}
@@ -162,7 +162,7 @@ module _ {b a : List ℕ} {at : Layout} {slots : LineSlots} (usable : Usable b a
   passed-next {words} {m} {i} {r} before tested e =
       record {
         good = below_more _ i (λ j h. sym (bad_record-same t words j) ∙ before.good j h)
-            (sym (bad_record-same t words i) ∙ not_true (bad_record b a words i) (sym tested.said ∙ not-false r e));
+            (sym (bad_record-same t words i) ∙ not-true (bad_record b a words i) (sym tested.said ∙ not-false r e));
         slotted = subst (Slotted m words (i + 1) slots.numbers slots.marks) t.count (tested.slotted (not-false r e));
       }
     where
@@ -179,7 +179,7 @@ module _ {b a : List ℕ} {at : Layout} {slots : LineSlots} (usable : Usable b a
     bad_found {count} h {r} tested e =
         record {
           said = first_bad 12 (bad_record b a words) count fine h refl
-              (bad_record-same (tables_still usable kept) words i ∙ not-false (bad_record b c words i) (sym tested.said ∙ not_true r e));
+              (bad_record-same (tables_still usable kept) words i ∙ not-false (bad_record b c words i) (sym tested.said ∙ not-true r e));
           good = λ f. absurd (not_passed f);
           kept = within_both kept tested.kept;
         }

@@ -1,5 +1,6 @@
 // The refusals of 01's table that a call can give, each reason a case with its place; 15 is the program's own.
 #![tactic(auto)]
+
 ghost use Rattle.std.specs.Prelude.{◌≡◌};
 ghost use Rattle.refusals.specs.Said.{number_of, place_of};
 

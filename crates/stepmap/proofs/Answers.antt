@@ -2,8 +2,6 @@
 -- Rests on Said, Formed, Reading and refusals' Answers.
 use Prim.Native.Nat.{ℕ, ◌<◌}
 use native.Mathlib.Omega.{arith}
-use types.Run.{OneOf, miss}
-use denote.Enum.Declared.{tag_of}
 use mathlib.Core.Bool.{Bool, true, false, ◌||◌}
 use mathlib.Core.List.{List, [], ◌∷◌}
 use mathlib.Core.Logic.{◌≢◌}
@@ -21,8 +19,6 @@ use Rattle.stepmap.specs.declared.links.Links.{Links}
 use Rattle.stepmap.specs.declared.links.Links.TheVariants as Link
 use Rattle.stepmap.specs.declared.read.StepMap.{StepMap}
 use Rattle.stepmap.specs.declared.read.StepMap.TheVariants as Map
-use Rattle.stepmap.specs.contracts.links.Links.{the_type as links-type}
-use Rattle.stepmap.specs.contracts.read.StepMap.{the_type as map-type}
 use Rattle.lists.proofs.First.{first_absent}
 use Rattle.lists.proofs.Tests.{or_false_both}
 use Rattle.stepmap.proofs.Reading.{formed-size, limits, ruled, refused_1, refused_2, sized}
@@ -53,13 +49,13 @@ links_said_injective (Link.Refused x) (Link.Refused y) e = ap (λ (z : Refusal).
 
 -- what is not taken apart is a refusal
 
-pub map_refused : (r : StepMap) → OneOf (1 ∷ []) (tag_of map-type r) → ruling (map_said r) ≢ passed
+pub map_refused : (r : StepMap) → ((n l p : ℕ) → r ≡ Map.Sized n l p → ⊥) → ruling (map_said r) ≢ passed
 unfolding ruling
-map_refused (Map.Sized n l p) h e = miss (1 ∷ []) 0 tt h
+map_refused (Map.Sized n l p) h e = h n l p refl
 map_refused (Map.Refused x) h e = no_refusal (sym e)
 
-pub links_refused : (r : Links) → OneOf (1 ∷ []) (tag_of links-type r) → links_said r ≢ passed
-links_refused Link.Sound h e = miss (1 ∷ []) 0 tt h
+pub links_refused : (r : Links) → (r ≡ Link.Sound → ⊥) → links_said r ≢ passed
+links_refused Link.Sound h e = h refl
 links_refused (Link.Refused x) h e = no_refusal (sym e)
 
 -- an answer is no refusal

@@ -12,7 +12,7 @@ use lib.ListN.{length, get_or, take, set, length-append}
 use lib.Seq.{take_all, take-suc, get_or-set_same, get_or-set_other}
 use lib.Dec.{eqb, leb, ltb}
 use borrow.Author.Count.{below_more}
-use borrow.Author.Tests.{lt-ltb, le-ltb, ltb-true, ltb-false, le-leb, lt-leb, eq-eqb, ne_eqb, not_true, not-false}
+use borrow.Author.Tests.{lt-ltb, le-ltb, ltb-true, ltb-false, le-leb, lt-leb, eq-eqb, ne_eqb, not-true, not-false}
 use Rattle.lists.specs.Lists.{upto, one, keep, member}
 use Rattle.lists.proofs.First.{first-is, first-none}
 use Rattle.lists.proofs.Upto.{upto-suc, keep_append, get_or-table}
@@ -141,7 +141,7 @@ module _ {a : List ℕ} {at : Layout} {room : OrderRoom} (placed : PlacesStand a
         }
       where
         test : ltb v at.sizes.nodes ≡ false
-        test = sym node.known ∙ not_true r e
+        test = sym node.known ∙ not-true r e
 
   pub all-taken : length list ≤ i → i ≤ length list → ListTaken a at room list Marked m
   unfolding earliest refuse

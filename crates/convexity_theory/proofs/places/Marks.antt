@@ -9,7 +9,7 @@ use mathlib.Core.Bool.{Bool, true, false, not, true≢false}
 use mathlib.Core.List.Memᴰ
 use mathlib.Core.List.{List, [], ◌++◌, append-nil, Memᴰ}
 use lib.ListN.{length}
-use borrow.Author.Tests.{not_true}
+use borrow.Author.Tests.{not-true}
 use Rattle.lists.specs.Lists.{any, member, In}
 use Rattle.lists.proofs.Members.{member_yes, keep-there}
 use Rattle.lists.proofs.Places.{times_in, times_in_back}
@@ -131,7 +131,7 @@ module _ {b a : List ℕ} (acc : Accepted b a) (s : Sound b) (room : W b ≤ len
     new-listed e =
         record {
           here = here;
-          out = λ j m. not_true (member j places) (keep_passes (λ x. not (member x places)) near m);
+          out = λ j m. not-true (member j places) (keep_passes (λ x. not (member x places)) near m);
           reached = λ j m. (node_at b a i, member-listed (node_at b a i) list (place-listed b a list (member_in i places e)), link (linked (here j m)));
           of_listed = λ p j m q. keep_at (λ x. not (member x places)) m (ap not q);
           of_marked = λ m. absurd (true≢false (sym e ∙ g.outside i m));

@@ -10,7 +10,7 @@ use mathlib.Core.List.Memᴰ
 use mathlib.Core.List.{List, [], ◌∷◌, ◌++◌, Memᴰ}
 use lib.ListN.{length}
 use lib.Dec.{eqb, leb}
-use borrow.Author.Tests.{lt-ltb, le-ltb, leb-false, not_true}
+use borrow.Author.Tests.{lt-ltb, le-ltb, leb-false, not-true}
 use Rattle.lists.specs.Lists.{from, any, keep, member, greatest}
 use Rattle.lists.proofs.Members.{keep_members, keep_nothing, keep-there}
 use Rattle.accepted_theory.proofs.recorded.Among.{keep_at, keep_passes, member_at, member_in, none_at}
@@ -110,7 +110,7 @@ module _ (b a places : List ℕ) where
                 ap (step_topo b a places) (g.stepped ∙ ap₂ Topo.going (row_with listed i k e) (row-without (λ j. member j marked) i k (off (member i marked) refl)))
                 ∙ step-node i nodes others (λ j m. row_low (λ x. member x marked) (suc i) k m)
                 ∙ ap (Topo.going nodes) (marks_more i k end marked (outsiders b a places i) (λ j m. keep-there (λ x. not (listed x)) (next i) m));
-            outside = outside_more (outsiders b a places i) (λ j m. not_true (listed j) (keep_passes (λ x. not (listed x)) (next i) m));
+            outside = outside_more (outsiders b a places i) (λ j m. not-true (listed j) (keep_passes (λ x. not (listed x)) (next i) m));
           }
         where
           off : (on : Bool) → member i marked ≡ on → on ≡ false

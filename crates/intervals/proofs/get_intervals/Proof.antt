@@ -1,7 +1,7 @@
 -- `intervals::get_intervals` meets its contract: the counts are set to 0, the nodes added, and the records tested.
 -- Rests on Cleared and Whole.
 use native.Mathlib.Omega.{arith}
-use borrow.Author.Tests.{not_true, not-false}
+use borrow.Author.Tests.{not-true, not-false}
 use borrow.Author.Rules.{rules}
 use Rattle.paper.proofs.Area.{W-sum}
 use Rattle.intervals.proofs.Cleared.{can_add-nodes}
@@ -38,7 +38,7 @@ returns c =
     let emptied = added.before.before.before.before.before in
     let start = emptied.before.before.before.before.before.before in
     not_contiguous start.requires.0 start.requires.1.0 emptied.before.before.lay-map.ensures emptied.fill.ensures added.add-nodes.ensures start.requires.1.1 c.before.all-filled.ensures
-    (not_true _ c.if1.true)
+    (not-true _ c.if1.true)
 
 returns-2 : tie.Need-returns-2
 returns-2 c =

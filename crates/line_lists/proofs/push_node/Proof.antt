@@ -22,7 +22,7 @@ decreases-loop area₀ node-starts lines cursors nodes v e₀ end area e = end -
 bytes : (s : tie.In-loop invariant-loop decreases-loop) → length s.before.loop.area * 2 < 2 ^ 63
 bytes s =
     let start = s.before.before.before.before.before.before.before in
-    rw (as_long start.requires _ s.before.loop.invariant.1) start.well-formed.0.1
+    rw (as_long start.requires _ s.before.loop.invariant.1) start.well_formed.0.1
 
 at_entry : (s : tie.In-loop invariant-loop decreases-loop)
     → s.before.before.before.before.before.before.before.args.lines + s.before.loop.e < length s.before.loop.area
@@ -53,10 +53,10 @@ at-spot s =
     )
 
 add_wide : tie.Need-overflow-add-wide invariant-loop decreases-loop
-add_wide c = omega (arith, first-inside c.before.requires, c.before.well-formed.0.1)
+add_wide c = omega (arith, first-inside c.before.requires, c.before.well_formed.0.1)
 
 mul_wide : tie.Need-overflow-mul-wide invariant-loop decreases-loop
-mul_wide c = omega (arith, first-inside c.before.requires, c.before.well-formed.0.1)
+mul_wide c = omega (arith, first-inside c.before.requires, c.before.well_formed.0.1)
 
 slice-read-wide : tie.Need-slice-read-wide invariant-loop decreases-loop
 slice-read-wide c = first-inside c.before.before.requires
@@ -65,13 +65,13 @@ wide-requires : tie.Need-wide-requires invariant-loop decreases-loop
 wide-requires c κs = tt
 
 add-wide-2 : tie.Need-overflow-add-wide-2 invariant-loop decreases-loop
-add-wide-2 c = omega (arith, second-inside c.before.before.before.requires, c.before.before.before.well-formed.0.1)
+add-wide-2 c = omega (arith, second-inside c.before.before.before.requires, c.before.before.before.well_formed.0.1)
 
 add-wide-3 : tie.Need-overflow-add-wide-3 invariant-loop decreases-loop
-add-wide-3 c = omega (arith, second-inside c.before.before.before.requires, c.before.before.before.well-formed.0.1)
+add-wide-3 c = omega (arith, second-inside c.before.before.before.requires, c.before.before.before.well_formed.0.1)
 
 mul-wide-2 : tie.Need-overflow-mul-wide-2 invariant-loop decreases-loop
-mul-wide-2 c = omega (arith, second-inside c.before.before.before.requires, c.before.before.before.well-formed.0.1)
+mul-wide-2 c = omega (arith, second-inside c.before.before.before.requires, c.before.before.before.well_formed.0.1)
 
 slice-read-wide-2 : tie.Need-slice-read-wide-2 invariant-loop decreases-loop
 slice-read-wide-2 c = second-inside c.before.before.before.before.requires

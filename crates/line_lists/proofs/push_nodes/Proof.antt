@@ -20,7 +20,7 @@ decreases-loop area₀ n order node-starts lines cursors nodes t₀ area t = n -
 bytes : (s : tie.In-loop invariant-loop decreases-loop) → length s.before.loop.area * 2 < 2 ^ 63
 bytes s =
     let start = s.before.before.before in
-    rw (as_long start.requires s.before.loop.t s.before.loop.invariant) start.well-formed.0.1
+    rw (as_long start.requires s.before.loop.t s.before.loop.invariant) start.well_formed.0.1
 
 loop-holds : tie.Need-loop-init invariant-loop decreases-loop
 loop-holds c = none-pushed c.before.requires

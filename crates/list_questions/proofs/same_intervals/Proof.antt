@@ -13,7 +13,7 @@ use Rattle.recorded.specs.Parts.{behind, list_at}
 use Rattle.recorded.specs.Answers.{with_list, written_words}
 use Rattle.recorded.specs.Questions.{same_intervals}
 use Rattle.recorded.proofs.Bounds.{within}
-use Rattle.recorded.proofs.Asked.{not_true, no_records, no_room, has_room, nowhere, lacks, lacks_second, ends, lent, part_length, second-size, two_with}
+use Rattle.recorded.proofs.Asked.{not-true, no_records, no_room, has_room, nowhere, lacks, lacks_second, ends, lent, part_length, second-size, two_with}
 use Rattle.list_questions.proofs.same_intervals.Statement.{statement}
 use Rattle.list_questions.proofs.same_intervals.Tie as tie
 
@@ -24,7 +24,7 @@ returns c =
     let line = start.words.now in (
       nowhere (get_or line (behind line 1) 0) 7680 _
           (no_records line (behind line (behind line 1)) _ _ (omega (arith, lacks line 1 c.before.before.list_at.ensures c.enum_told.given.1))),
-      not_true,
+      not-true,
     )
 
 returns-2 : tie.Need-returns-2
@@ -37,7 +37,7 @@ returns-2 c =
     let line = start.words.now in (
       nowhere (get_or line (behind line 1) 0) 7680 _
           (no_records line (behind line (behind line 1)) _ _ (omega (arith, lacks_second line 1 first.list_at.ensures listed.list.given.1 second.list-at2.ensures c.enum-told2.given.1))),
-      not_true,
+      not-true,
     )
 
 sub-size : tie.Need-overflow-sub-size
@@ -52,7 +52,7 @@ returns-3 c =
     let first = listed.before.before in
     let start = first.before.before.before.before.args in
     let line = start.words.now in
-    (no_room (get_or line (behind line 1) 0) 7680 _ (omega (arith, second-size line 1 first.list_at.ensures listed.list.given.1 second.list-at2.ensures lent_out.buffer.given.1)), not_true)
+    (no_room (get_or line (behind line 1) 0) 7680 _ (omega (arith, second-size line 1 first.list_at.ensures listed.list.given.1 second.list-at2.ensures lent_out.buffer.given.1)), not-true)
 
 mul-copy-out : tie.Need-overflow-mul-copy-out
 mul-copy-out c = let part = within _ _ c.before.before.before.before.before.list-at2.ensures c.before.before.before.buffer.given.1 in search rules

@@ -4,7 +4,7 @@ use native.Mathlib.Omega.{arith}
 use mathlib.Core.Path.{◌≡◌, refl, sym, ap, ◌∙◌}
 use Prim.Native.Nat.{ℕ}
 use Rattle.recorded.proofs.Bounds.{within}
-use Rattle.recorded.proofs.Asked.{not_true, no_line, lacks, one_list}
+use Rattle.recorded.proofs.Asked.{not-true, no_line, lacks, one_list}
 use Rattle.recorded.specs.Parts.{behind}
 use Rattle.recorded.specs.Answers.{line_words}
 use Rattle.recorded.specs.Questions.{same_line_check}
@@ -19,7 +19,7 @@ unfolding same_line_check
 returns c =
     let start = c.before.before.before.before.before.before.args in
     let line = start.words.now in
-    (no_line line (behind line 1) _ (omega (arith, lacks line 1 c.before.before.list_at.ensures c.enum_told.given.1)), not_true)
+    (no_line line (behind line 1) _ (omega (arith, lacks line 1 c.before.before.list_at.ensures c.enum_told.given.1)), not-true)
 
 mul-is-node-convex : tie.Need-overflow-mul-is-node-convex
 mul-is-node-convex c = let part = within _ _ c.before.before.before.before.list_at.ensures c.before.before.list.given.1 in search rules

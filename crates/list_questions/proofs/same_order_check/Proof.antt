@@ -4,7 +4,7 @@ use native.Mathlib.Omega.{arith}
 use mathlib.Core.Path.{◌≡◌, refl, sym, ap, ◌∙◌}
 use Prim.Native.Nat.{ℕ}
 use Rattle.recorded.proofs.Bounds.{within}
-use Rattle.recorded.proofs.Asked.{not_true, no_order, lacks, one_list}
+use Rattle.recorded.proofs.Asked.{not-true, no_order, lacks, one_list}
 use Rattle.recorded.specs.Parts.{behind}
 use Rattle.recorded.specs.Answers.{order_words}
 use Rattle.recorded.specs.Questions.{same_order_check}
@@ -19,7 +19,7 @@ unfolding same_order_check
 returns c =
     let start = c.before.before.before.before.before.before.args in
     let line = start.words.now in
-    (no_order line (behind line 1) _ (omega (arith, lacks line 1 c.before.before.list_at.ensures c.enum_told.given.1)), not_true)
+    (no_order line (behind line 1) _ (omega (arith, lacks line 1 c.before.before.list_at.ensures c.enum_told.given.1)), not-true)
 
 mul-is-node-convex : tie.Need-overflow-mul-is-node-convex
 mul-is-node-convex c = let part = within _ _ c.before.before.before.before.list_at.ensures c.before.before.list.given.1 in search rules

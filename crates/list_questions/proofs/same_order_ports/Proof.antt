@@ -4,7 +4,7 @@ use native.Mathlib.Omega.{arith}
 use mathlib.Core.Path.{◌≡◌, refl, sym, ap, ◌∙◌}
 use Prim.Native.Nat.{ℕ}
 use Rattle.recorded.proofs.Bounds.{within}
-use Rattle.recorded.proofs.Asked.{not_true, no_order, lacks, lacks_second, lacks_third, three_lists}
+use Rattle.recorded.proofs.Asked.{not-true, no_order, lacks, lacks_second, lacks_third, three_lists}
 use Rattle.recorded.specs.Parts.{behind}
 use Rattle.recorded.specs.Answers.{order_words}
 use Rattle.recorded.specs.Questions.{same_order_ports}
@@ -19,7 +19,7 @@ unfolding same_order_ports
 returns c =
     let start = c.before.before.before.before.before.before.args in
     let line = start.words.now in
-    (no_order line (behind line (behind line (behind line 1))) _ (omega (arith, lacks line 1 c.before.before.list_at.ensures c.enum_told.given.1)), not_true)
+    (no_order line (behind line (behind line (behind line 1))) _ (omega (arith, lacks line 1 c.before.before.list_at.ensures c.enum_told.given.1)), not-true)
 
 returns-2 : tie.Need-returns-2
 unfolding same_order_ports
@@ -29,7 +29,7 @@ returns-2 c =
     let first = listed.before.before in
     let start = first.before.before.before.before.args in
     let line = start.words.now in
-    (no_order line (behind line (behind line (behind line 1))) _ (omega (arith, lacks_second line 1 first.list_at.ensures listed.list.given.1 second.list-at2.ensures c.enum-told2.given.1)), not_true)
+    (no_order line (behind line (behind line (behind line 1))) _ (omega (arith, lacks_second line 1 first.list_at.ensures listed.list.given.1 second.list-at2.ensures c.enum-told2.given.1)), not-true)
 
 returns-3 : tie.Need-returns-3
 unfolding same_order_ports
@@ -41,7 +41,7 @@ returns-3 c =
     let first = listed.before.before in
     let start = first.before.before.before.before.args in
     let line = start.words.now in
-    (no_order line (behind line (behind line (behind line 1))) _ (omega (arith, lacks_third line 1 first.list_at.ensures listed.list.given.1 second.list-at2.ensures inner.inputs.given.1 third.list-at3.ensures c.enum-told3.given.1)), not_true)
+    (no_order line (behind line (behind line (behind line 1))) _ (omega (arith, lacks_third line 1 first.list_at.ensures listed.list.given.1 second.list-at2.ensures inner.inputs.given.1 third.list-at3.ensures c.enum-told3.given.1)), not-true)
 
 mul-is-convex : tie.Need-overflow-mul-is-convex
 mul-is-convex c =

@@ -6,7 +6,7 @@ use Prim.Native.Nat.{ℕ}
 use mathlib.Core.Path.{ap}
 use Rattle.paper.specs.Calls.{Left, call, lines_at_port}
 use Rattle.recorded.specs.Questions.{same_port_lines}
-use Rattle.recorded.proofs.Asked.{not_true, no_lines, port-lines}
+use Rattle.recorded.proofs.Asked.{not-true, no_lines, port-lines}
 use Rattle.list_questions.proofs.same_port_lines.Statement.{statement}
 use Rattle.list_questions.proofs.same_port_lines.Tie as tie
 
@@ -15,7 +15,7 @@ unfolding same_port_lines
 returns c =
     let start = c.before.before.before.before.args in
     let line = start.words.now in
-    (no_lines line 2 _ _ (omega arith), not_true)
+    (no_lines line 2 _ _ (omega arith), not-true)
 
 returns-2 : tie.Need-returns-2
 unfolding lines_at_port call

@@ -3,17 +3,15 @@ use Rattle.std.proofs.Common.{ℕ, ◌<◌, length, get_or, sym, ap, ◌∙◌, 
 use Rattle.lookup.proofs.Along.{along-is}
 use Rattle.lookup.proofs.position_at.Goals as goal
 
--- a line's node has a position
-node-known : (s : tie.After-wide) → s.wide.result < length s.before.before.before.before.args.positions.now
-node-known s =
-    let start = s.before.before.before.before in
-    omega (arith, s.wide.ensures, start.requires.0.known start.args.i start.requires.1)
-
 pub offset_bounds-positions-wide : goal.offset_bounds-positions-wide
-offset_bounds-positions-wide c = omega (arith, node-known c)
+offset_bounds-positions-wide c =
+    let node-known : c.wide.result < length c.args.positions.now = omega (arith, c.wide.ensures, c.requires.line.known c.args.i c.requires.i_in_bounds) in
+    omega (arith, node-known)
 
 pub bounds-positions-wide : goal.bounds-positions-wide
-bounds-positions-wide c = node-known c
+bounds-positions-wide c =
+    let node-known : c.wide.result < length c.args.positions.now = omega (arith, c.wide.ensures, c.requires.line.known c.args.i c.requires.i_in_bounds) in
+    node-known
 
 pub returns : goal.returns
 returns c = let holds = c.wide-2.ensures ∙ ap (λ (v : ℕ). get_or c.args.positions.now v 0) c.wide.ensures in

@@ -8,7 +8,7 @@ use mathlib.Core.Logic.{◌⊎◌, inl, inr}
 use mathlib.Core.Bool.{Bool, true, false, true≢false, not, ◌&&◌}
 use mathlib.Core.List.{List, [], ◌∷◌, ◌++◌}
 use lib.Dec.{eqb}
-use borrow.Author.Tests.{eq-eqb, eqb-true, not_true}
+use borrow.Author.Tests.{eq-eqb, eqb-true, not-true}
 use Rattle.lists.specs.Lists.{In, upto, any, keep, member, least}
 use Rattle.paper.specs.Map.{N, L, link_from, link_to}
 use Rattle.paper.specs.Plain.{Linked}
@@ -97,7 +97,7 @@ module _ (b list : List ℕ) (d v : ℕ) where
       let both = and_both (fed_by b (level_at b list d) v) (not (member v (rounds b list d).met)) k.0 in
       record {
         fed = fed_by_lem b (level_at b list d) v both.0;
-        new = λ m. true≢false (sym (in_member v (rounds b list d).met m) ∙ not_true (member v (rounds b list d).met) both.1);
+        new = λ m. true≢false (sym (in_member v (rounds b list d).met m) ∙ not-true (member v (rounds b list d).met) both.1);
         known = upto-below (in_mem (upto (N b)) k.1);
       }
 

@@ -8,7 +8,7 @@ use mathlib.Core.List.{List}
 use lib.ListN.{get_or}
 use Rattle.recorded.specs.Answers.{count_words}
 use Rattle.recorded.specs.Questions.{same_prepared}
-use Rattle.recorded.proofs.Asked.{no_count, asked, not_true}
+use Rattle.recorded.proofs.Asked.{no_count, asked, not-true}
 use Rattle.record_questions.proofs.prepares_to.Statement.{statement}
 use Rattle.record_questions.proofs.prepares_to.Tie as tie
 
@@ -20,7 +20,7 @@ returns : tie.Need-returns
 unfolding same_prepared
 returns c =
     let start = c.before.before.before.before.args in
-    (no_count start.words.now (answer_at start.words.now) _ (omega arith), not_true)
+    (no_count start.words.now (answer_at start.words.now) _ (omega arith), not-true)
 
 mul_at : tie.Need-overflow-mul-at
 mul_at c = omega (arith, c.wide.ensures, c.before.shared-slice-known3.given 1)
@@ -38,7 +38,7 @@ returns-2 : tie.Need-returns-2
 unfolding same_prepared
 returns-2 c =
     let start = c.before.before.before.before.before.before.before.before.before.args in
-    (no_count start.words.now (answer_at start.words.now) _ (omega (arith, c.before.before.before.wide.ensures, c.before.wide2.ensures)), not_true)
+    (no_count start.words.now (answer_at start.words.now) _ (omega (arith, c.before.before.before.wide.ensures, c.before.wide2.ensures)), not-true)
 
 returns-3 : tie.Need-returns-3
 unfolding same_prepared

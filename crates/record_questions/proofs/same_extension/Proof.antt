@@ -13,7 +13,7 @@ use Rattle.recorded.specs.Parts.{behind, list_at}
 use Rattle.recorded.specs.Answers.{with_list, written_words}
 use Rattle.recorded.specs.Questions.{same_extension}
 use Rattle.recorded.proofs.Bounds.{within}
-use Rattle.recorded.proofs.Asked.{not_true, no_records, no_room, has_room, nowhere, lacks, ends, lent, part_length, part-size, one_with}
+use Rattle.recorded.proofs.Asked.{not-true, no_records, no_room, has_room, nowhere, lacks, ends, lent, part_length, part-size, one_with}
 use Rattle.record_questions.proofs.same_extension.Statement.{statement}
 use Rattle.record_questions.proofs.same_extension.Tie as tie
 
@@ -23,7 +23,7 @@ returns c =
     let start = c.before.before.before.before.before.before.args in
     let line = start.words.now in (
       nowhere (get_or line 3 0) 7680 _ (no_records line (behind line 3) _ _ (omega (arith, lacks line 3 c.before.before.list_at.ensures c.enum_told.given.1))),
-      not_true,
+      not-true,
     )
 
 sub-size : tie.Need-overflow-sub-size
@@ -34,7 +34,7 @@ unfolding same_extension
 returns-2 c =
     let start = c.before.before.before.before.before.before.before.before.args in
     let line = start.words.now in
-    (no_room (get_or line 3 0) 7680 _ (omega (arith, part-size line 3 c.before.before.before.before.list_at.ensures c.before.before.buffer.given.1)), not_true)
+    (no_room (get_or line 3 0) 7680 _ (omega (arith, part-size line 3 c.before.before.before.before.list_at.ensures c.before.before.buffer.given.1)), not-true)
 
 mul-copy-out : tie.Need-overflow-mul-copy-out
 mul-copy-out c = let part = within _ _ c.before.before.before.before.before.list_at.ensures c.before.before.before.buffer.given.1 in search rules

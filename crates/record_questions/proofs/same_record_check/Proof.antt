@@ -14,7 +14,7 @@ use Rattle.recorded.specs.Parts.{behind, list_at}
 use Rattle.recorded.specs.Answers.{line_words}
 use Rattle.recorded.specs.Questions.{same_record_check}
 use Rattle.recorded.proofs.Bounds.{within}
-use Rattle.recorded.proofs.Asked.{not_true, no_line, lacks, ends, one_list}
+use Rattle.recorded.proofs.Asked.{not-true, no_line, lacks, ends, one_list}
 use Rattle.record_questions.proofs.same_record_check.Statement.{statement}
 use Rattle.record_questions.proofs.same_record_check.Tie as tie
 
@@ -23,7 +23,7 @@ unfolding same_record_check
 returns c =
     let start = c.before.before.before.before.before.before.args in
     let line = start.words.now in
-    (no_line line (behind line 2) _ (omega (arith, lacks line 2 c.before.before.list_at.ensures c.enum_told.given.1)), not_true)
+    (no_line line (behind line 2) _ (omega (arith, lacks line 2 c.before.before.list_at.ensures c.enum_told.given.1)), not-true)
 
 shared-slice-read-wide : tie.Need-shared-slice-read-wide
 shared-slice-read-wide c =

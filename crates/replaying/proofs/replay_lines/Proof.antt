@@ -31,7 +31,7 @@ part-replay-line-end c = let line = line-within _ _ (omega arith) c.line-end.ens
 add_at : tie.Need-overflow-add-at invariant-loop decreases-loop
 add_at c =
     let start = c.before.before.before.before.before.before.before.before.before.before.before.before.before.before.before.before.before.before.before.before.before.before.before.before.before.before.before.before.before.before.before.before in
-    let good = start.well-formed.0 in
+    let good = start.well_formed.0 in
     let line = line-within start.args.file.now c.before.before.before.before.before.before.before.before.before.before.before.before.before.before.before.before.before.before.before.before.before.before.before.loop.at (omega arith) c.before.before.before.before.before.before.before.before.before.before.before.before.before.before.before.before.before.before.before.before.before.line-end.ensures in search rules
 
 loop-less : tie.Need-loop-smaller invariant-loop decreases-loop

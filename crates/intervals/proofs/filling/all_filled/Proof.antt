@@ -4,7 +4,7 @@ use Prim.Native.Nat.{ℕ, ◌-◌, ◌≤◌, ◌<◌}
 use native.Mathlib.Omega.{arith}
 use mathlib.Core.Bool.{true}
 use mathlib.Core.Path.{◌≡◌, sym, ◌∙◌}
-use borrow.Author.Tests.{not_true, not-false}
+use borrow.Author.Tests.{not-true, not-false}
 use borrow.Author.Count.{below_more}
 use Rattle.lists.proofs.AllAny.{all_false, all_through}
 use Rattle.intervals.specs.Filling.{fills_record}
@@ -29,7 +29,7 @@ returns c =
     let args = turn.before.before.before.before.args in
     sym
     (all_false (fills_record args.area.now args.at args.room args.records.now) args.made turn.before.loop.i turn.loop-test.true
-    (sym c.before.fills-record.ensures ∙ not_true _ c.if1.true))
+    (sym c.before.fills-record.ensures ∙ not-true _ c.if1.true))
 
 add-i : tie.Need-overflow-add-i invariant-loop decreases-loop
 add-i c = omega (arith, c.before.before.loop-test.true)

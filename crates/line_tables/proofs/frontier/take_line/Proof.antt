@@ -8,10 +8,10 @@ use Rattle.line_tables.proofs.frontier.take_line.Statement.{statement}
 use Rattle.line_tables.proofs.frontier.take_line.Tie as tie
 
 add-met-2 : tie.Need-overflow-add-met-2
-add-met-2 c = omega (arith, met-read c.before.before.before.before.before.before.before.requires c.before.before.before.word_at.ensures c.link-from.ensures, c.before.before.before.before.before.before.before.well-formed.1.1.1.1.0.1)
+add-met-2 c = omega (arith, met-read c.before.before.before.before.before.before.before.requires c.before.before.before.word_at.ensures c.link-from.ensures, c.before.before.before.before.before.before.before.well_formed.1.1.1.1.0.1)
 
 mul-met : tie.Need-overflow-mul-met
-mul-met c = omega (arith, met-read c.before.before.before.before.before.before.before.requires c.before.before.before.word_at.ensures c.link-from.ensures, c.before.before.before.before.before.before.before.well-formed.1.1.1.1.0.1)
+mul-met c = omega (arith, met-read c.before.before.before.before.before.before.before.requires c.before.before.before.word_at.ensures c.link-from.ensures, c.before.before.before.before.before.before.before.well_formed.1.1.1.1.0.1)
 
 slice-read-met : tie.Need-slice-read-met
 slice-read-met c = met-read c.before.before.before.before.before.before.before.before.requires c.before.before.before.before.word_at.ensures c.before.link-from.ensures

@@ -23,16 +23,16 @@ round-requires c = product_roundable c.args.low c.args.high c.args.left c.args.r
 
 pub overflow_add-along : goal.overflow_add-along
 unfolding product quotient float
-overflow_add-along c =    omega (arith, c.round.ensures, rounded-most c.args.low c.args.high c.args.left c.args.right c.args.pos c.requires)
+overflow_add-along c = omega (arith, c.round.ensures, rounded-most c.args.low c.args.high c.args.left c.args.right c.args.pos c.requires)
 
 pub returns-then-along-low : goal.returns-then-along-low
 unfolding product quotient float
-returns-then-along-low c =    moved_up c.args.low c.args.high c.args.left c.args.right c.args.pos c.round.result c.round.ensures c.if-along-low.true
+returns-then-along-low c = moved_up c.args.low c.args.high c.args.left c.args.right c.args.pos c.round.result c.round.ensures c.if-along-low.true
 
 pub returns-then-along-high : goal.returns-then-along-high
 unfolding product quotient float
-returns-then-along-high c =    moved_down c.args.low c.args.high c.args.left c.args.right c.args.pos c.round.result c.round.ensures c.if-along-low.false c.if-along-high.true
+returns-then-along-high c = moved_down c.args.low c.args.high c.args.left c.args.right c.args.pos c.round.result c.round.ensures c.if-along-low.false c.if-along-high.true
 
 pub returns : goal.returns
 unfolding product quotient float
-returns c =    unmoved c.args.low c.args.high c.args.left c.args.right c.args.pos c.round.result c.round.ensures c.if-along-low.false c.if-along-high.false
+returns c = unmoved c.args.low c.args.high c.args.left c.args.right c.args.pos c.round.result c.round.ensures c.if-along-low.false c.if-along-high.false

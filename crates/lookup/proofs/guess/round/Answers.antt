@@ -6,7 +6,7 @@ use Rattle.lookup.proofs.Rounding.{cuttable, whole-few, half_reached, half_not_r
 use Rattle.lookup.proofs.guess.round.Goals as goal
 
 pub truncating_f64_to_u64-whole-requires : goal.truncating_f64_to_u64-whole-requires
-truncating_f64_to_u64-whole-requires c = cuttable c.args.x c.requires
+truncating_f64_to_u64-whole-requires c = let all = cuttable c.args.x c.requires in record { lower_bound = all.0; upper_bound = all.1 }
 
 pub overflow_mul-half : goal.overflow_mul-half
 overflow_mul-half c = omega (arith, whole-few c.args.x c.requires c.truncating_f64_to_u64-whole.ensures)

@@ -6,14 +6,14 @@ pub returns-then-is_missing : goal.returns-then-is_missing
 returns-then-is_missing c = let all = answer_4 _ _ _ (sym c.is_missing.ensures ∙ c.if-is_missing.true) in record { result_value = all.0; marks_after = all.1 }
 
 pub target_port-target-requires : goal.target_port-target-requires
-target_port-target-requires c = let all = (c.requires.link, (c.requires.firsts-stand, sym c.is_missing.ensures ∙ c.if-is_missing.false)) in record { has_link = all.0; firsts = all.1; k_value = all.2 }
+target_port-target-requires c = record { has_link = c.requires.link; firsts = c.requires.firsts_stand; k_value = sym c.is_missing.ensures ∙ c.if-is_missing.false }
 
 pub offset_bounds-marks-target : goal.offset_bounds-marks-target
-offset_bounds-marks-target c =    let here = sym c.is_missing.ensures ∙ c.if-is_missing.false in
+offset_bounds-marks-target c = let here = sym c.is_missing.ensures ∙ c.if-is_missing.false in
     omega (arith, mark-below c.requires here c.target_port-target.ensures)
 
 pub bounds-marks-target : goal.bounds-marks-target
-bounds-marks-target c =    let here = sym c.is_missing.ensures ∙ c.if-is_missing.false in
+bounds-marks-target c = let here = sym c.is_missing.ensures ∙ c.if-is_missing.false in
     mark-below c.requires here c.target_port-target.ensures
 
 pub returns-then-marks-target-eq1 : goal.returns-then-marks-target-eq1
@@ -21,11 +21,11 @@ returns-then-marks-target-eq1 c = let all = let here = sym c.is_missing.ensures 
     answer_5 _ _ _ here (mark_set c.requires here c.target_port-target.ensures c.if-marks-target-eq1.true) in record { result_value = all.0; marks_after = all.1 }
 
 pub offset_bounds-marks-target-2 : goal.offset_bounds-marks-target-2
-offset_bounds-marks-target-2 c =    let here = sym c.is_missing.ensures ∙ c.if-is_missing.false in
+offset_bounds-marks-target-2 c = let here = sym c.is_missing.ensures ∙ c.if-is_missing.false in
     omega (arith, mark-below c.requires here c.target_port-target.ensures)
 
 pub bounds-marks-target-2 : goal.bounds-marks-target-2
-bounds-marks-target-2 c =    let here = sym c.is_missing.ensures ∙ c.if-is_missing.false in
+bounds-marks-target-2 c = let here = sym c.is_missing.ensures ∙ c.if-is_missing.false in
     mark-below c.requires here c.target_port-target.ensures
 
 pub returns : goal.returns

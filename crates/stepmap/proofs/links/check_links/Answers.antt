@@ -20,19 +20,19 @@ pub loop-k-init : goal.loop-k-init
 loop-k-init c = pass_starts _ _ c.port_room-marks.ensures
 
 pub slice_bounds-check_link-end : goal.slice_bounds-check_link-end
-slice_bounds-check_link-end c =    omega (arith, c.first_ports.auto.1.1.0, c.node_room-firsts.ensures)
+slice_bounds-check_link-end c = omega (arith, c.first_ports.auto.firsts, c.node_room-firsts.ensures)
 
 pub slice_bounds-check_link-end-in-loop-k : goal.slice_bounds-check_link-end-in-loop-k
 slice_bounds-check_link-end-in-loop-k c = sym c.loop-k.invariant.size
 
 pub check_link-found-requires : goal.check_link-found-requires
-check_link-found-requires c =    let stand = firsts-from _ c.node_room-firsts.result _ c.first_ports.ensures c.node_room-firsts.ensures c.requires.few-nodes in
+check_link-found-requires c = let stand = firsts-from _ c.node_room-firsts.result _ c.first_ports.ensures c.node_room-firsts.ensures c.requires.few-nodes in
     link-ready c.requires c.loop-k-test.true stand c.loop-k.invariant
 
 pub returns-in_default : goal.returns-in_default
-returns-in_default c =    let stand = firsts-from _ c.node_room-firsts.result _ c.first_ports.ensures c.node_room-firsts.ensures c.requires.few-nodes in
+returns-in_default c = let stand = firsts-from _ c.node_room-firsts.result _ c.first_ports.ensures c.node_room-firsts.ensures c.requires.few-nodes in
     faulty_link c.requires c.loop-k-test.true stand c.loop-k.invariant c.check_link-found.result c.check_link-found.ensures.result_value
-    (links_refused c.check_link-found.result c.in-Sound.keys2)
+    (links_refused c.check_link-found.result c.in_default.not-Sound)
 
 pub overflow_add-k : goal.overflow_add-k
 overflow_add-k c = omega arith
@@ -41,9 +41,9 @@ pub loop-k-smaller : goal.loop-k-smaller
 loop-k-smaller c = omega arith
 
 pub loop-k-preserved : goal.loop-k-preserved
-loop-k-preserved c =    let stand = firsts-from _ c.node_room-firsts.result _ c.first_ports.ensures c.node_room-firsts.ensures c.requires.few-nodes in
+loop-k-preserved c = let stand = firsts-from _ c.node_room-firsts.result _ c.first_ports.ensures c.node_room-firsts.ensures c.requires.few-nodes in
     pass_on c.requires c.loop-k-test.true stand c.loop-k.invariant c.check_link-found.result c.check_link-found.ensures.result_value c.check_link-found.ensures.marks_after
-    c.enum_told-1.given.1
+    c.in-Sound.is
 
 pub returns : goal.returns
 returns c = all_sound c.requires c.loop-k-test.false c.loop-k.invariant

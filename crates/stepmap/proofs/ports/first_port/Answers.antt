@@ -14,10 +14,10 @@ pub num_outputs-requires : goal.num_outputs-requires
 num_outputs-requires c = omega arith
 
 pub overflow_add-p : goal.overflow_add-p
-overflow_add-p c =    omega (arith, ins-below c.args.b.now c.type_inv.b c.loop-u.u, outs-below c.args.b.now c.type_inv.b c.loop-u.u)
+overflow_add-p c = omega (arith, ins-below c.args.b.now c.type_inv.b c.loop-u.u, outs-below c.args.b.now c.type_inv.b c.loop-u.u)
 
 pub overflow_add-p-in-loop-u : goal.overflow_add-p-in-loop-u
-overflow_add-p-in-loop-u c =    omega (arith, ins-below c.args.b.now c.type_inv.b c.loop-u.u, outs-below c.args.b.now c.type_inv.b c.loop-u.u, first_below c.args.b.now c.type_inv.b c.loop-u.u)
+overflow_add-p-in-loop-u c = omega (arith, ins-below c.args.b.now c.type_inv.b c.loop-u.u, outs-below c.args.b.now c.type_inv.b c.loop-u.u, first_below c.args.b.now c.type_inv.b c.loop-u.u)
 
 pub overflow_add-u : goal.overflow_add-u
 overflow_add-u c = omega arith
@@ -29,5 +29,5 @@ pub loop-u-preserved : goal.loop-u-preserved
 loop-u-preserved c = (omega arith, omega (arith, first-port-next c.args.b.now c.loop-u.u))
 
 pub returns : goal.returns
-returns c =    let done : c.loop-u.u ≡ c.args.v = omega arith in
+returns c = let done : c.loop-u.u ≡ c.args.v = omega arith in
     c.loop-u.invariant.1 ∙ ap (first_port _) done

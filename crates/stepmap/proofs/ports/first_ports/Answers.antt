@@ -9,7 +9,7 @@ unfolding first_port
 loop-v-init c = (omega arith, (refl, refl))
 
 pub overflow_cast-firsts : goal.overflow_cast-firsts
-overflow_cast-firsts c =    let low = first-rises c.args.b.now c.loop-v.v c.args.n c.loop-v.invariant.0 in
+overflow_cast-firsts c = let low = first-rises c.args.b.now c.loop-v.v c.args.n c.loop-v.invariant.0 in
     omega (arith, low, c.requires.numbered.few)
 
 pub offset_bounds-firsts-v : goal.offset_bounds-firsts-v
@@ -25,11 +25,11 @@ pub num_outputs-requires : goal.num_outputs-requires
 num_outputs-requires c = omega (arith, c.requires.numbered.inside)
 
 pub overflow_add-p : goal.overflow_add-p
-overflow_add-p c =    let next : c.loop-v.v + 1 ≤ c.args.n = omega arith in
+overflow_add-p c = let next : c.loop-v.v + 1 ≤ c.args.n = omega arith in
     omega (arith, first-rises c.args.b.now (c.loop-v.v + 1) _ next, first-port-next c.args.b.now c.loop-v.v, c.requires.numbered.few)
 
 pub overflow_add-p-in-loop-v : goal.overflow_add-p-in-loop-v
-overflow_add-p-in-loop-v c =    let next : c.loop-v.v + 1 ≤ c.args.n = omega arith in
+overflow_add-p-in-loop-v c = let next : c.loop-v.v + 1 ≤ c.args.n = omega arith in
     omega (arith, first-rises c.args.b.now (c.loop-v.v + 1) _ next, first-port-next c.args.b.now c.loop-v.v, c.requires.numbered.few)
 
 pub overflow_add-v : goal.overflow_add-v
@@ -39,11 +39,11 @@ pub loop-v-smaller : goal.loop-v-smaller
 loop-v-smaller c = omega arith
 
 pub loop-v-preserved : goal.loop-v-preserved
-loop-v-preserved c =    let filled = filled_next c.args.b.now _ _ c.loop-v.invariant.1.0 c.loop-v.invariant.1.1 in
+loop-v-preserved c = let filled = filled_next c.args.b.now _ _ c.loop-v.invariant.1.0 c.loop-v.invariant.1.1 in
     (omega arith, (omega (arith, first-port-next c.args.b.now c.loop-v.v), filled))
 
 pub overflow_cast-firsts-2 : goal.overflow_cast-firsts-2
-overflow_cast-firsts-2 c =    let low = first-rises c.args.b.now c.loop-v.v c.args.n c.loop-v.invariant.0 in
+overflow_cast-firsts-2 c = let low = first-rises c.args.b.now c.loop-v.v c.args.n c.loop-v.invariant.0 in
     omega (arith, low, c.requires.numbered.few)
 
 pub offset_bounds-firsts-n : goal.offset_bounds-firsts-n
@@ -56,5 +56,5 @@ pub shape_of-firsts : goal.shape_of-firsts
 shape_of-firsts c = rw length-set (simp length-sets at (ap length c.loop-v.invariant.1.1))
 
 pub returns : goal.returns
-returns c =    let done : c.loop-v.v ≡ c.args.n = omega arith in
+returns c = let done : c.loop-v.v ≡ c.args.n = omega arith in
     rw (← done) (filled_next c.args.b.now _ _ c.loop-v.invariant.1.0 c.loop-v.invariant.1.1)

@@ -4,16 +4,16 @@ use Rattle.stepmap.proofs.Reading.{nodes-below}
 use Rattle.stepmap.proofs.ports.is_output.Goals as goal
 
 pub first_port-requires : goal.first_port-requires
-first_port-requires c =    let o = holder c.args.b.now _ _ _ c.requires c.port_node-v.ensures in
+first_port-requires c = let o = holder c.args.b.now _ _ _ c.requires c.port_node-v.ensures in
     let nodes = nodes-below c.args.b.now c.type_inv.b in
     (omega (arith, o.known, c.requires.inside), omega (arith, o.known, c.requires.nodes))
 
 pub num_inputs-requires : goal.num_inputs-requires
-num_inputs-requires c =    let o = holder c.args.b.now _ _ _ c.requires c.port_node-v.ensures in
+num_inputs-requires c = let o = holder c.args.b.now _ _ _ c.requires c.port_node-v.ensures in
     omega (arith, o.known, c.requires.inside)
 
 pub overflow_add-result : goal.overflow_add-result
-overflow_add-result c =    let o = holder c.args.b.now _ _ c.port_node-v.result c.requires c.port_node-v.ensures in
+overflow_add-result c = let o = holder c.args.b.now _ _ c.port_node-v.result c.requires c.port_node-v.ensures in
     let few = nodes-below c.args.b.now c.type_inv.b in
     omega (arith, o.known, c.requires.nodes, first_below c.args.b.now c.type_inv.b c.port_node-v.result, ins-below c.args.b.now c.type_inv.b c.port_node-v.result)
 

@@ -34,5 +34,5 @@ loop-v-preserved c = (
 )
 
 pub returns : goal.returns
-returns c =    let done : c.loop-v.v ≡ c.args.n = omega arith in
+returns c = let done : c.loop-v.v ≡ c.args.n = omega arith in
     sym (ap (λ (n : ℕ). all (few_ports c.args.b.now) (upto n)) (sym done) ∙ all_true _ _ c.loop-v.invariant.1)

@@ -7,10 +7,10 @@ pub returns-then-b-at : goal.returns-then-b-at
 returns-then-b-at c = sym (mark_test _ _ c.requires ∙ rw (ne_eqb _ _ c.if-b-at.true))
 
 pub returns-then-b-at-2 : goal.returns-then-b-at-2
-returns-then-b-at-2 c =    sym (mark_test _ _ c.requires ∙ rw (eq-eqb _ _ c.if-b-at.false, ne_eqb _ _ c.if-b-at-2.true))
+returns-then-b-at-2 c = sym (mark_test _ _ c.requires ∙ rw (eq-eqb _ _ c.if-b-at.false, ne_eqb _ _ c.if-b-at-2.true))
 
 pub returns-then-b-at-3 : goal.returns-then-b-at-3
-returns-then-b-at-3 c =    sym (mark_test _ _ c.requires ∙ rw (eq-eqb _ _ c.if-b-at.false, eq-eqb _ _ c.if-b-at-2.false, ne_eqb _ _ c.if-b-at-3.true))
+returns-then-b-at-3 c = sym (mark_test _ _ c.requires ∙ rw (eq-eqb _ _ c.if-b-at.false, eq-eqb _ _ c.if-b-at-2.false, ne_eqb _ _ c.if-b-at-3.true))
 
 pub returns : goal.returns
-returns c =    sym (mark_test _ _ c.requires ∙ rw (eq-eqb _ _ c.if-b-at.false, eq-eqb _ _ c.if-b-at-2.false, eq-eqb _ _ c.if-b-at-3.false) (and-true _))
+returns c = sym (mark_test _ _ c.requires ∙ rw (eq-eqb _ _ c.if-b-at.false, eq-eqb _ _ c.if-b-at-2.false, eq-eqb _ _ c.if-b-at-3.false) (and-true _))

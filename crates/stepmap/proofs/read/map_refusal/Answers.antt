@@ -9,12 +9,12 @@ same e = ap (λ (r : StepMap). ruling (map_said r)) (sym e)
 
 pub never-requires : goal.never-requires
 unfolding ruling
-never-requires c = c.requires (sym (same c.enum_told-1.given.1))
+never-requires c = c.requires (sym (same c.in_default.is))
 
 pub returns-in_default : goal.returns-in_default
 unfolding ruling
-returns-in_default c = absurd (c.requires (sym (same c.enum_told-1.given.1)))
+returns-in_default c = absurd (c.requires (sym (same c.in_default.is)))
 
 pub returns : goal.returns
 unfolding ruling
-returns c = same c.read-1.given.1
+returns c = same c.in-Refused.is

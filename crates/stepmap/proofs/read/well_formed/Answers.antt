@@ -13,7 +13,7 @@ pub overflow_mul-l : goal.overflow_mul-l
 overflow_mul-l c = omega (arith, links-below c.args.b.now c.type_inv.b)
 
 pub overflow_add-n : goal.overflow_add-n
-overflow_add-n c =    omega (arith, nodes-below c.args.b.now c.type_inv.b, links-below c.args.b.now c.type_inv.b)
+overflow_add-n c = omega (arith, nodes-below c.args.b.now c.type_inv.b, links-below c.args.b.now c.type_inv.b)
 
 pub returns-then-number_at-n : goal.returns-then-number_at-n
 unfolding to_nodes trailer
@@ -24,7 +24,7 @@ unfolding to_links trailer
 returns-then-number_at-l c = sym (links_far _ (λ e. c.if-number_at-l.true (omega arith)))
 
 pub overflow_add-n-3 : goal.overflow_add-n-3
-overflow_add-n-3 c =    omega (arith, nodes-below c.args.b.now c.type_inv.b, links-below c.args.b.now c.type_inv.b)
+overflow_add-n-3 c = omega (arith, nodes-below c.args.b.now c.type_inv.b, links-below c.args.b.now c.type_inv.b)
 
 pub returns-then-b-n : goal.returns-then-b-n
 returns-then-b-n c = sym (long _ (λ e. c.if-b-n.true (omega arith)))

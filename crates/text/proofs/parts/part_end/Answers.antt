@@ -6,10 +6,10 @@ pub loop-end-init : goal.loop-end-init
 loop-end-init c = (search rules, refl)
 
 pub returns-then-text-end : goal.returns-then-text-end
-returns-then-text-end c =    part-here _ _ _ c.loop-end-test.true c.if-text-end.true ∙ sym c.loop-end.invariant.1
+returns-then-text-end c = part-here _ _ _ c.loop-end-test.true c.if-text-end.true ∙ sym c.loop-end.invariant.1
 
 pub loop-end-preserved : goal.loop-end-preserved
-loop-end-preserved c =    (search rules, c.loop-end.invariant.1 ∙ part-on _ _ _ c.loop-end-test.true c.if-text-end.false)
+loop-end-preserved c = (search rules, c.loop-end.invariant.1 ∙ part-on _ _ _ c.loop-end-test.true c.if-text-end.false)
 
 pub returns : goal.returns
 returns c = part_over _ _ _ c.loop-end-test.false ∙ sym c.loop-end.invariant.1

@@ -10,4 +10,4 @@ put_numbered-requires c = omega (arith, reply-short (reply_of c.args.reply))
 
 pub returns : goal.returns
 unfolding show_line
-returns c =    put_both (ascii " ") (decimal c.args.count) c.put_reply-counted.ensures c.put_numbered.ensures
+returns c = put_both (ascii " ") (decimal c.args.count) c.put_reply-counted.ensures c.put_numbered.ensures

@@ -5,23 +5,23 @@ use Rattle.paper.specs.Text.{decimal, show_way}
 use Rattle.text.proofs.Printed.{put_then, text_more, word-short}
 use Rattle.text.proofs.printer.put_path.Goals as goal
 
-pub put_text-end-requires : goal.put_text-end-requires
+pub loop-i-init : goal.loop-i-init
 unfolding flat_map
-put_text-end-requires c = (search rules, refl, search rules, record { stands = refl; ends = search rules })
+loop-i-init c = (search rules, refl, search rules, record { stands = refl; ends = search rules })
 
 pub loop-i-preserved : goal.loop-i-preserved
-loop-i-preserved c =    (
-      search rules,
-      search rules,
-      omega (
-        arith,
-        c.put_numbered-end.ensures.ends,
-        length-append (ascii " ") (decimal c.wide.result),
-        word-short c.wide.result (omega (arith, c.type_inv.steps c.loop-i.i)),
-        c.loop-i.invariant.2,
-      ),
-      text_more (λ v. ascii " " ++ decimal v) _ c.loop-i.i (search rules) c.loop-i.invariant.3 (rw (← c.wide.ensures) c.put_numbered-end.ensures),
-    )
+loop-i-preserved c = (
+  search rules,
+  search rules,
+  omega (
+    arith,
+    c.put_numbered-end.ensures.ends,
+    length-append (ascii " ") (decimal c.wide.result),
+    word-short c.wide.result (omega (arith, c.type_inv.steps c.loop-i.i)),
+    c.loop-i.invariant.2,
+  ),
+  text_more (λ v. ascii " " ++ decimal v) _ c.loop-i.i (search rules) c.loop-i.invariant.3 (rw (← c.wide.ensures) c.put_numbered-end.ensures),
+)
 
 pub returns : goal.returns
 unfolding show_way

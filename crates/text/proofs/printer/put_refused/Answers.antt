@@ -9,5 +9,5 @@ put_numbered-requires c = omega (arith, decimal-short c.args.number)
 
 pub returns : goal.returns
 unfolding show_refused
-returns c =    put_both (ascii " ") (decimal c.args.place) c.put_numbered-placed.ensures
+returns c = put_both (ascii " ") (decimal c.args.place) c.put_numbered-placed.ensures
     c.put_numbered.ensures

@@ -3,7 +3,7 @@ use Rattle.text.proofs.Printed.{put_then, refused_short}
 use Rattle.text.proofs.printer.put_refused_line.Goals as goal
 
 pub put_text-requires : goal.put_text-requires
-put_text-requires c =    omega (arith, refused_short c.args.number c.args.place)
+put_text-requires c = omega (arith, refused_short c.args.number c.args.place)
 
 pub returns : goal.returns
-returns c = put_then c.Put-refused.ensures c.put_text.ensures
+returns c = put_then c.put_refused-end.ensures c.put_text.ensures

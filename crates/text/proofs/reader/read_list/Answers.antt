@@ -9,7 +9,7 @@ pub loop-cursor-init : goal.loop-cursor-init
 loop-cursor-init c = (refl, read-start _ _ c.if-line-eq0.false)
 
 pub returns-in_default : goal.returns-in_default
-returns-in_default c =    read_bad c.loop-cursor.invariant.1 (search rules) (sym c.number-answer.ensures ∙ c.enum_told-1.given.1)
+returns-in_default c = read_bad c.loop-cursor.invariant.1 (search rules) (sym c.number-answer.ensures ∙ c.in_default.is)
 
 pub bounds-list-count : goal.bounds-list-count
 bounds-list-count c = omega arith
@@ -18,11 +18,11 @@ pub overflow_add-count : goal.overflow_add-count
 overflow_add-count c = omega arith
 
 pub loop-cursor-smaller : goal.loop-cursor-smaller
-loop-cursor-smaller c =    omega (arith, (moved _ _ (search rules) (sym c.number-answer.ensures ∙ c.answer-1.given.1)).further)
+loop-cursor-smaller c = omega (arith, (moved _ _ (search rules) (sym c.number-answer.ensures ∙ c.in-Value.is)).further)
 
 pub loop-cursor-preserved : goal.loop-cursor-preserved
-loop-cursor-preserved c =    let read = sym c.number-answer.ensures ∙ c.answer-1.given.1 in
+loop-cursor-preserved c = let read = sym c.number-answer.ensures ∙ c.in-Value.is in
     (search rules, read_more c.loop-cursor.invariant.1 (search rules) (omega arith) read)
 
 pub returns : goal.returns
-returns c =    read_all c.loop-cursor.invariant.1 c.loop-cursor-test.false (omega (arith, c.loop-cursor.invariant.1.few, c.loop-cursor.invariant.1.within))
+returns c = read_all c.loop-cursor.invariant.1 c.loop-cursor-test.false (omega (arith, c.loop-cursor.invariant.1.few, c.loop-cursor.invariant.1.within))

@@ -6,7 +6,7 @@ pub returns-then-text-eq0 : goal.returns-then-text-eq0
 returns-then-text-eq0 c = no_number _ c.if-text-eq0.true
 
 pub returns-then-text-eq1 : goal.returns-then-text-eq1
-returns-then-text-eq1 c = c.value_of_lem.ensures ∙ one_digit _ c.if-text-eq1.true
+returns-then-text-eq1 c = c.value_of.ensures ∙ one_digit _ c.if-text-eq1.true
 
 pub returns-then-text-eq48 : goal.returns-then-text-eq48
 returns-then-text-eq48 c = needless_zero c.args.text.now (omega arith) c.if-text-eq48.true

@@ -20,7 +20,7 @@ decreases-loop area₀ lows records count i₀ area i = count - i
 bytes : (s : tie.At-loop invariant-loop decreases-loop) → length s.loop.area * 2 < 2 ^ 63
 bytes s =
     rw (ap length s.loop.invariant.1 ∙ lows-long s.before.before.before.args.area.now s.before.before.before.args.lows s.before.before.before.args.records.now s.loop.i)
-    s.before.before.before.well-formed.0.1
+    s.before.before.before.well_formed.0.1
 
 inside : (s : tie.After-wide invariant-loop decreases-loop) → s.before.before.before.before.before.before.before.args.lows + s.wide.result < length s.before.before.before.before.loop.area
 inside s =

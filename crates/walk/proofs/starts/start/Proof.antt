@@ -28,22 +28,22 @@ loop-holds c =
     (omega arith, starts_none start.requires.0 start.requires.1)
 
 mul_wide : tie.Need-overflow-mul-wide invariant-loop decreases-loop
-mul_wide c = omega (arith, inside c, c.before.before.before.before.before.well-formed)
+mul_wide c = omega (arith, inside c, c.before.before.before.before.before.well_formed)
 
 mul-wide-2 : tie.Need-overflow-mul-wide-2 invariant-loop decreases-loop
-mul-wide-2 c = omega (arith, inside c, c.before.before.before.before.before.well-formed)
+mul-wide-2 c = omega (arith, inside c, c.before.before.before.before.before.well_formed)
 
 shared-slice-read-wide : tie.Need-shared-slice-read-wide invariant-loop decreases-loop
 shared-slice-read-wide c = omega (arith, inside c.before)
 
 mul-wide-3 : tie.Need-overflow-mul-wide-3 invariant-loop decreases-loop
-mul-wide-3 c = omega (arith, inside c.before.before, c.before.before.before.before.before.before.before.well-formed)
+mul-wide-3 c = omega (arith, inside c.before.before, c.before.before.before.before.before.before.before.well_formed)
 
 add_wide : tie.Need-overflow-add-wide invariant-loop decreases-loop
-add_wide c = omega (arith, inside c.before.before, c.before.before.before.before.before.before.before.well-formed)
+add_wide c = omega (arith, inside c.before.before, c.before.before.before.before.before.before.before.well_formed)
 
 mul-wide-4 : tie.Need-overflow-mul-wide-4 invariant-loop decreases-loop
-mul-wide-4 c = omega (arith, inside c.before.before, c.before.before.before.before.before.before.before.well-formed)
+mul-wide-4 c = omega (arith, inside c.before.before, c.before.before.before.before.before.before.before.well_formed)
 
 shared-slice-read-wide-2 : tie.Need-shared-slice-read-wide-2 invariant-loop decreases-loop
 shared-slice-read-wide-2 c = omega (arith, inside c.before.before.before)
@@ -58,7 +58,7 @@ start-on-requires c κs =
 add-i : tie.Need-overflow-add-i invariant-loop decreases-loop
 add-i c =
     let turn = c.before.before.before.before.before.before.before.before in
-    omega (arith, inside turn, turn.before.before.before.before.before.well-formed)
+    omega (arith, inside turn, turn.before.before.before.before.before.well_formed)
 
 loop-less : tie.Need-loop-smaller invariant-loop decreases-loop
 loop-less c = omega (arith, c.before.before.before.before.before.before.before.before.loop-test.true)

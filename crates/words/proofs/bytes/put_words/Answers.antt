@@ -1,5 +1,5 @@
-use mathlib.Core.List.{flat_map}
 use Rattle.std.proofs.Common.{ap, refl, rules, take_all, ◌∙◌}
+use mathlib.Core.List.{flat_map}
 use Rattle.paper.specs.Words.{bytes_from, put_words}
 use Rattle.words.proofs.Turns.{put_again}
 use Rattle.words.proofs.bytes.put_words.Goals as goal
