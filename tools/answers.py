@@ -200,7 +200,7 @@ class Proof:
         # helpers on a step
         for h in self.helpers:
             step = "(?:" + "|".join(map(re.escape, aliases)) + r")(?:\." + WORD + r")*"
-            call = re.escape(h) + " " + step
+            call = re.escape(h) + r" (?:" + step + r"|\(" + step + r"\))"
             text = re.sub(r"(?<![\w.'₀-₉-])(?:\(" + call + r"\)|" + call + r"(?![\w.'-]))", h, text)
 
         def turn(m):
@@ -211,9 +211,12 @@ class Proof:
 
         text = re.sub(r"(?<![\w.'₀-₉-])(" + WORD + r")((?:\.(?:" + WORD + r"))*)", turn, text)
         # a negated test says now that its operand is false
-        text = re.sub(r"\(not-(?:true|false) _ (c\.if-[^\s()]+)\)", r"\1", text)
-        text = re.sub(r"\bnot-(?:true|false) _ (c\.if-[^\s()]+)", r"\1", text)
-        return re.sub(r"\(not-(?:true|false) _ (c\.[^\s()]*-test\.(?:true|false))\)", r"\1", text)
+        keep = lambda m: m[1].replace("c.", "c·")
+        text = re.sub(r"\(not-(?:true|false) _ (c\.if-[^\s()]+)\)", keep, text)
+        text = re.sub(r"\bnot-(?:true|false) _ (c\.if-[^\s()]+)", keep, text)
+        text = re.sub(r"\(not-(?:true|false) _ (c\.[^\s()]*-test\.(?:true|false))\)", keep, text)
+        text = re.sub(r"(c\.if-not-[^\s(),.]+\.(?:true|false))", r"(ap not \1)", text)
+        return text.replace("c·", "c.")
 
     # ---- declarations
     def parse(self, text):
@@ -552,6 +555,8 @@ class Proof:
             common.add("rules")
         if "arith" in words:
             common.add("arith")
+        if "(ap not" in text:
+            common |= {"ap", "not"}
         for op in ("+", "-", "*", "/", "%", "<", "≤", "≡", "∷", "++", "∙"):
             if op in words:
                 common.add(f"◌{op}◌")

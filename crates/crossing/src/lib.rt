@@ -1,5 +1,6 @@
 // How a lent area crosses: its words are read from the bytes into a room for the largest W, and put back after the call.
 #![tactic(auto)]
+
 ghost use Rattle.std.specs.Prelude.{◌≡◌, min, ◌/◌, length, take};
 ghost use Rattle.std.proofs.lemmas.List.Edits.{sets};
 ghost use Rattle.paper.specs.Words.{words_from};

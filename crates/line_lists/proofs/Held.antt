@@ -156,9 +156,9 @@ module _ {a₀ : List ℕ} {cursors k nodes : ℕ} {start : ℕ → ℕ} (rises 
       → Held a₀ (row_pushed a cursors nodes v ls) cursors k nodes start (λ l. on l ++ replicate (times l ls) v)
   unfolding row_pushed
   held-row {on = on} h v [] below fits = held_same (λ l. on l ++ []) h (λ l. sym (append-nil (on l)))
-  held-row {on = on} h v (x ∷ ls) below fits =
+  held-row {a = a} {on = on} h v (x ∷ ls) below fits =
       held_same (λ l. on l ++ replicate (one (eqb l x) + times l ls) v)
-      (held-row (held-push h v x x<k (λ l lt. omega (arith, length_more on v x l, fits l lt))) v ls (λ l lt. omega (arith, below l lt))
+      (held-row {a = pushed a cursors nodes v x} {on = more on v x} (held-push h v x x<k (λ l lt. omega (arith, length_more on v x l, fits l lt))) v ls (λ l lt. omega (arith, below l lt))
       (λ l lt. omega (arith, length_more on v x l, fits l lt)))
       joined
     where

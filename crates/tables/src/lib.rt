@@ -1,5 +1,6 @@
 // The area as a value: the place of every section, made once for a map; and the lists of nodes and of lines as parts of the area.
 #![tactic(auto)]
+
 ghost use Rattle.std.specs.Prelude.{◌≡◌};
 ghost use Rattle.tables.specs.Placed.{Few, LaidOut};
 ghost use Rattle.tables.specs.Usable.{Spanned, entries_of};

@@ -75,8 +75,8 @@ module _ {n : ℕ} {joined : List ℕ} (j : Joined n joined) (v : ℕ) (h : v < 
 pub join_all-joined : {n : ℕ} {joined : List ℕ} → Joined n joined → (xs : List ℕ) → Below n xs → Joined n (join_all joined xs)
 unfolding join_all
 join_all-joined j [] below = j
-join_all-joined {n} j (x ∷ xs) below =
-    join_all-joined (join-joined j x (place-known n (x ∷ xs) 0 below (omega arith))) xs (λ k l. omega (arith, below k l))
+join_all-joined {n = n} {joined = joined} j (x ∷ xs) below =
+    join_all-joined {joined = join joined x} (join-joined j x (place-known n (x ∷ xs) 0 below (omega arith))) xs (λ k l. omega (arith, below k l))
 
 -- ---- turn by turn
 
