@@ -4,14 +4,14 @@
 use refusals::Refusal;
 
 // Preparing: how many lines there are.
-#[derive(Drop)]
+#[derive(Clone, Copy)]
 pub enum Prepared {
     Lines(usize),
     Refused(Refusal),
 }
 
 // The line check and the check by records: yes or no with the walk's count.
-#[derive(Drop)]
+#[derive(Clone, Copy)]
 pub enum LineAnswer {
     Yes(usize),
     No(usize),
@@ -19,7 +19,7 @@ pub enum LineAnswer {
 }
 
 // The order check.
-#[derive(Drop)]
+#[derive(Clone, Copy)]
 pub enum TopoAnswer {
     Yes,
     No,
@@ -27,7 +27,7 @@ pub enum TopoAnswer {
 }
 
 // Intervals: how many records were written, or that the list is not contiguous.
-#[derive(Drop)]
+#[derive(Clone, Copy)]
 pub enum IntervalsAnswer {
     Records(usize),
     NotContiguous,
@@ -35,7 +35,7 @@ pub enum IntervalsAnswer {
 }
 
 // Extending: how many records there are now, or that they cannot be extended.
-#[derive(Drop)]
+#[derive(Clone, Copy)]
 pub enum ExtendAnswer {
     Records(usize),
     NotExtendable,
@@ -43,21 +43,21 @@ pub enum ExtendAnswer {
 }
 
 // Nodes in records: how many were written.
-#[derive(Drop)]
+#[derive(Clone, Copy)]
 pub enum NodesAnswer {
     Nodes(usize),
     Refused(Refusal),
 }
 
 // Lines at a port: the place of the first one in its node's list, and how many.
-#[derive(Drop)]
+#[derive(Clone, Copy)]
 pub enum PortLines {
     At(usize, usize),
     Refused(Refusal),
 }
 
 // The path: how many steps it has, which stand in the buffer, or that there is none.
-#[derive(Drop)]
+#[derive(Clone, Copy)]
 pub enum PathAnswer {
     Path(usize),
     NoPath,

@@ -9,7 +9,7 @@ use text::printer::{put_first, put_refused_line};
 use wording::put_unprepared;
 
 // What was put, as where it ends: the whole output, or its first line.
-#[derive(Drop)]
+#[derive(Clone, Copy)]
 pub enum Beginning {
     Whole(usize),
     First(usize),

@@ -20,7 +20,7 @@ use libc::{STDIN_FILENO, STDOUT_FILENO};
 use turns::next_list;
 
 // What is asked of every list: both checks, or the path that a no shows.
-#[derive(Drop)]
+#[derive(Clone, Copy)]
 pub enum Program {
     Ask,
     Why,

@@ -9,7 +9,7 @@ use super::replies::answer_text;
 use text::parts::line_end;
 
 // A line of output, as where it ends, and where the next line of the input starts.
-#[derive(Drop)]
+#[derive(Clone, Copy)]
 pub struct Turn {
     pub printed: usize,
     pub next: usize,

@@ -19,7 +19,7 @@ use tables::Layout;
 use take_in::{Taken, list_refusal, take_in};
 
 // Where the links stand that the search reads: by output port from step to step, and by input port on the way back.
-#[derive(Drop)]
+#[derive(Clone, Copy)]
 pub struct Room {
     pub targets: Listing,
     pub sources: Listing,

@@ -13,7 +13,7 @@ use words::section::word_at;
 
 // What the way back reads, and no more, since each step of the path has it on the stack: the number of nodes, where those that were met stand,
 // and of the links by input port the nodes' first ports, where each port's links start, and the links.
-#[derive(Drop)]
+#[derive(Clone, Copy)]
 pub struct Back {
     pub nodes: usize,
     pub queue: usize,

@@ -15,14 +15,14 @@ use stepmap::read::Sizes;
 use words::section::word_at;
 
 // The smallest of some nodes, or that there are none.
-#[derive(Drop)]
+#[derive(Clone, Copy)]
 pub enum Smallest {
     Absent,
     At(usize),
 }
 
 // Where the way back closes: at a distance, with the listed step that ends it; or that it never does.
-#[derive(Drop)]
+#[derive(Clone, Copy)]
 pub enum Closing {
     Never,
     At(usize, usize),

@@ -18,7 +18,7 @@ use words::field::wide;
 use words::section::word_at;
 
 // What extending comes to: how many records there are then, or "not extendable".
-#[derive(Drop)]
+#[derive(Clone, Copy)]
 pub enum Extended {
     Records(usize),
     NotExtendable,

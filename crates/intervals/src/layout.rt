@@ -6,7 +6,7 @@ ghost use Rattle.intervals.specs.Holds.{MapFits};
 use tables::Layout;
 
 // For each of the lines that an area may have a slot, which tells its record, and then for each how often it was added.
-#[derive(Drop)]
+#[derive(Clone, Copy)]
 pub struct MapRoom {
     pub lines: usize,
     pub slots: usize,

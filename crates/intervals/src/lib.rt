@@ -16,7 +16,7 @@ use tables::Layout;
 use words::section::fill;
 
 // What a list of nodes comes to: how many records were written, or that it is not contiguous.
-#[derive(Drop)]
+#[derive(Clone, Copy)]
 pub enum Intervals {
     Records(usize),
     NotContiguous,

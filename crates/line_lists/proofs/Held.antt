@@ -175,9 +175,9 @@ module _ {a₀ : List ℕ} {cursors k nodes : ℕ} {start : ℕ → ℕ} (rises 
       → Held a₀ (all_pushed a cursors nodes row us) cursors k nodes start (λ l. on l ++ flat_map (λ u. replicate (times l (row u)) u) us)
   unfolding all_pushed flat_map
   held_all {on = on} h row [] below fits = held_same (λ l. on l ++ []) h (λ l. sym (append-nil (on l)))
-  held_all {on = on} h row (u ∷ us) below fits =
+  held_all {a = a} {on = on} h row (u ∷ us) below fits =
       held_same (λ l. on l ++ (replicate (times l (row u)) u ++ flat_map (λ w. replicate (times l (row w)) w) us))
-      (held_all (held-row h u (row u) (below u (Memᴰ.head refl)) (λ l lt. omega (arith, fits l lt))) row us
+      (held_all {a = row_pushed a cursors nodes u (row u)} (held-row h u (row u) (below u (Memᴰ.head refl)) (λ l lt. omega (arith, fits l lt))) row us
       (λ w m. below w (Memᴰ.tail m)) (λ l lt. omega (arith, long l, fits l lt)))
       (λ l. append_assoc (on l) (replicate (times l (row u)) u) (flat_map (λ w. replicate (times l (row w)) w) us))
     where

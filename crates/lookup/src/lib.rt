@@ -15,14 +15,14 @@ use guess::guess;
 use words::field::wide;
 
 // What a lookup answers: the index at which a position stands on a line, or that it does not.
-#[derive(Drop)]
+#[derive(Clone, Copy)]
 pub enum Index {
     At(usize),
     Absent,
 }
 
 // What comes after a position on a line: the next node, or the line's end.
-#[derive(Drop)]
+#[derive(Clone, Copy)]
 pub enum Next {
     Node(usize),
     End,

@@ -1,6 +1,7 @@
 // The links of a map laid once: its nodes' first ports and the links by output port, and behind them the links by input port, in the lent
 // area; and from them the steps that a node feeds.
 #![tactic(auto)]
+
 pub mod by_port;
 pub mod keys;
 
@@ -19,7 +20,7 @@ use words::section::word_at;
 
 // Where the links by port stand, of one direction: the nodes' first ports, the keys of the sort, where each port's links start, and the
 // links. The keys are free once the links stand.
-#[derive(Drop)]
+#[derive(Clone, Copy)]
 pub struct Listing {
     pub firsts: usize,
     pub keys: usize,

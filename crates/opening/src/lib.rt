@@ -15,7 +15,7 @@ use stepmap::read::{Sizes, StepMap, map_refusal, read_map};
 use tables::{Layout, lay_out};
 
 // What opening a call comes to: the map's sizes and where the sections of its area stand, or refusals 1, 2, 3, 4, 5, 7.
-#[derive(Drop)]
+#[derive(Clone, Copy)]
 pub enum Opened {
     Ready(Layout),
     Refused(Refusal),

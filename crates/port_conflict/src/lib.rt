@@ -20,7 +20,7 @@ use room::{PortRoom, lay_room};
 use tables::Layout;
 
 // What two lists of ports come to: an unknown port at an entry of its list, a conflict, or none.
-#[derive(Drop)]
+#[derive(Clone, Copy)]
 pub enum PortsFound {
     Unknown(usize),
     Conflict,

@@ -6,7 +6,7 @@ ghost use Rattle.port_conflict.specs.Room.{Fits};
 use tables::Layout;
 
 // The nodes' first ports, a mark for each port that says whether it is a listed input, and one that says whether it is a listed output.
-#[derive(Drop)]
+#[derive(Clone, Copy)]
 pub struct PortRoom {
     pub firsts: usize,
     pub inputs: usize,

@@ -5,7 +5,7 @@ ghost use Rattle.recorded.specs.Parts.{ListAt};
 use words::field::wide;
 
 // A part of a line, or that the line is too short for it.
-#[derive(Drop)]
+#[derive(Clone, Copy)]
 pub enum Part {
     Words { from: usize, to: usize },
     Missing,

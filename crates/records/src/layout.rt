@@ -6,7 +6,7 @@ ghost use Rattle.records.specs.Slots.{SlotsFit};
 use tables::Layout;
 
 // A slot for each line, which holds the number of its record, and then a mark for each line, which says that it has one.
-#[derive(Drop)]
+#[derive(Clone, Copy)]
 pub struct LineSlots {
     pub numbers: usize,
     pub marks: usize,

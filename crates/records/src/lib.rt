@@ -20,7 +20,7 @@ use tables::Layout;
 use words::section::fill;
 
 // What the test of given records comes to: that they may be used, or refusal 12 or 13.
-#[derive(Drop)]
+#[derive(Clone, Copy)]
 pub enum Checked {
     Good,
     Refused(Refusal),

@@ -16,7 +16,7 @@ use words::field::wide;
 
 // What a line came to: how many bytes the last map has, the checksum so far, the line's kind, 0 if it could not be read, whether the answers agree,
 // and whether the line is one of the head, which says nothing.
-#[derive(Drop)]
+#[derive(Clone, Copy)]
 pub struct Turn {
     pub size: usize,
     pub sum: usize,

@@ -14,7 +14,7 @@ use refusals::{Refusal, never};
 use words::field::wide;
 
 // What the check finds: no fault, or refusal 4 or 5 at a link.
-#[derive(Drop)]
+#[derive(Clone, Copy)]
 pub enum Links {
     Sound,
     Refused(Refusal),

@@ -12,7 +12,7 @@ use super::ports::first_port;
 use refusals::{Refusal, never};
 
 // How many nodes, links and ports a map has: what the reader finds, handed on by value.
-#[derive(Drop)]
+#[derive(Clone, Copy)]
 pub struct Sizes {
     pub nodes: usize,
     pub links: usize,
@@ -20,7 +20,7 @@ pub struct Sizes {
 }
 
 // What reading finds: how many nodes, links and ports there are, or refusal 1 or 2.
-#[derive(Drop)]
+#[derive(Clone, Copy)]
 pub enum StepMap {
     Sized {
         nodes: usize,

@@ -10,7 +10,7 @@ use words::section::word_at;
 
 // Where the sections of an area stand, one behind the other; the line count is the word before them all. `begins` tells where each node's
 // lines begin among `lines`, and `starts` where each line's nodes start among `along`.
-#[derive(Drop)]
+#[derive(Clone, Copy)]
 pub struct Layout {
     pub sizes: Sizes,
     pub order: usize,

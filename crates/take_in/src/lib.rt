@@ -14,14 +14,14 @@ use words::field::{field_at, wide};
 use words::section::fill;
 
 // The earliest bad entry of a list, if there is one.
-#[derive(Drop)]
+#[derive(Clone, Copy)]
 enum Earliest {
     Absent,
     At(usize),
 }
 
 // What taking in a list comes to: how many nodes it has, which stand in the area, or refusal 8, 9 or 10.
-#[derive(Drop)]
+#[derive(Clone, Copy)]
 pub enum Taken {
     Nodes(usize),
     Refused(Refusal),

@@ -7,27 +7,27 @@ ghost use Rattle.text.specs.Lists.{ReadInto};
 use crate::parts::part_end;
 
 // What a text that should be one number says.
-#[derive(Drop)]
+#[derive(Clone, Copy)]
 enum Reading {
     Number(u16),
     Bad,
 }
 
 // The reader's place in a line. A place past the line's end says that the line is read.
-#[derive(Drop)]
+#[derive(Clone, Copy)]
 pub struct Cursor {
     pub at: usize,
 }
 
 // The number at the reader's place, with the place moved past it.
-#[derive(Drop)]
+#[derive(Clone, Copy)]
 pub enum Number {
     Value { number: u16, next: Cursor },
     Bad,
 }
 
 // A line's numbers, as how many there are, or a line that is no list.
-#[derive(Drop)]
+#[derive(Clone, Copy)]
 pub enum ListRead {
     Numbers(usize),
     Bad,

@@ -8,7 +8,7 @@ use words::section::{fill, word_at};
 
 // Where it stands: the links by output port, a mark for each place that says whether it is listed, one that says whether it is in the
 // list's future, and each node's place.
-#[derive(Drop)]
+#[derive(Clone, Copy)]
 pub struct OrderRoom {
     pub links: Listing,
     pub listed: usize,

@@ -23,7 +23,7 @@ pub fn take_node(at: Layout, area: &mut [u16], room: OrderRoom, v: usize) -> boo
 }
 
 // A list whose nodes are all marked, or its first unknown entry.
-#[derive(Drop)]
+#[derive(Clone, Copy)]
 pub enum Listed {
     Marked,
     Unknown(usize),
@@ -65,7 +65,7 @@ pub fn take_list_bytes(at: Layout, area: &mut [u16], room: OrderRoom, list: &[u8
 }
 
 // How far a set of places goes: none, one, or from the first to the last of several.
-#[derive(Drop)]
+#[derive(Clone, Copy)]
 pub enum Extent {
     Nothing,
     One(usize),

@@ -16,7 +16,7 @@ use tables::{Layout, lay_out};
 use words::section::fill;
 
 // What ordering any map in any area comes to: where the sections stand, and in the scratch the links by output port; or refusals 1 to 6.
-#[derive(Drop)]
+#[derive(Clone, Copy)]
 pub enum Ordered {
     Done(Layout, Listing),
     Refused(Refusal),

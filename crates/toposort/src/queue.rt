@@ -8,7 +8,7 @@ ghost use Rattle.paper.specs.Refusals.{refuse};
 ghost use Rattle.toposort.specs.Queue.{Counters, Joining, Following, zero_counters, followed, order_said};
 
 // What ordering leaves: every node is ordered, or the lowest one that is not, which refusal 6 names.
-#[derive(Drop)]
+#[derive(Clone, Copy)]
 pub enum Order {
     All,
     Cycle(usize),

@@ -18,7 +18,7 @@ use words::field::wide;
 use words::section::fill;
 
 // Where the walk's words stand in the scratch: the queue and a mark for each node, a lowest position for each line, and the links.
-#[derive(Drop)]
+#[derive(Clone, Copy)]
 pub struct Room {
     pub queue: usize,
     pub lows: usize,

@@ -10,14 +10,14 @@ use tables::Layout;
 use words::section::word_at;
 
 // Where a turn leads: on, with how many have joined and how many were counted, or to the answer no with its count.
-#[derive(Drop)]
+#[derive(Clone, Copy)]
 pub enum Step {
     Goes(usize, usize),
     Stops(usize),
 }
 
 // What the queue walk answers, with how many nodes it counted.
-#[derive(Drop)]
+#[derive(Clone, Copy)]
 pub enum Walked {
     Yes(usize),
     No(usize),

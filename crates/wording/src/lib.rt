@@ -1,5 +1,6 @@
 // An answer put as the text that the programs print of it.
 #![tactic(auto)]
+
 ghost use Rattle.std.specs.Prelude.{◌+◌, ◌≤◌, ◌<◌, length};
 ghost use Rattle.paper.specs.Text.{show_line, show_order, show_way};
 ghost use Rattle.text.specs.Printed.{Put};

@@ -1,0 +1,14 @@
+use Rattle.paper.specs.Map.{source_port}
+use Rattle.order_theory.proofs.Refusals.{sound}
+use Rattle.neighbours.proofs.Writing.{source-below}
+use Rattle.neighbours.proofs.Sorted.{ready-to_sort, by_port_lem}
+use Rattle.neighbours.proofs.by_port.links_by_output.Goals as goal
+
+pub count_sort-requires : goal.count_sort-requires
+count_sort-requires c = ready-to_sort c.requires (source_port c.args.b.now)
+    (λ k h. source-below c.requires.tabled.read (sound _ c.requires.tabled.links) h) c.source_keys.ensures
+
+pub returns : goal.returns
+returns c = by_port_lem c.requires (source_port c.args.b.now)
+    (λ k h. source-below c.requires.tabled.read (sound _ c.requires.tabled.links) h) c.source_keys.ensures
+    c.count_sort.ensures
