@@ -131,9 +131,11 @@ class Proof:
         """Old fields below c, with no 'before' among them, as new text below c."""
         if not fields:
             return ""
-        head, rest = fields[0].replace("well-formed", "well_formed"), fields[1:]
+        head, rest = {"well-formed": "well_formed", "good": "well_formed", "pre": "requires"}.get(fields[0], fields[0]), fields[1:]
+        if re.match(r"(if|loop)", head) and rest:
+            rest = [{"taken": "true", "left": "false", "inv": "invariant"}.get(rest[0], rest[0])] + rest[1:]
         fields = [head] + rest
-        if head in ("args", "ranges", "lifetimes", "well_formed", "auto"):
+        if head in ("args", "ranges", "lifetimes", "well_formed", "auto", "type_inv"):
             return "." + ".".join(fields)
         if head == "requires":
             return self.clauses(["requires"], clause_names(self.function, "requires"), [FIELDS.get(r, r) for r in rest])

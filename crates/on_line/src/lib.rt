@@ -1,5 +1,6 @@
 // A line of the area: where a position stands on it, and which node comes next. The line's nodes are handed on as a part of the area.
 #![tactic(auto)]
+
 ghost use Rattle.std.specs.Prelude.{◌≡◌, true};
 ghost use Rattle.lists.specs.Lists.{member};
 ghost use Rattle.paper.specs.Lookup.{lookup};

@@ -20,8 +20,8 @@ overflow_add-firsts c =
       c.link_from-v.ensures,
       source_known c.requires.read (sound _ c.requires.links) c.loop-k-test.true,
     ) in
-    let at_first : c.args.firsts + c.link_from-v.result < length c.loop-k.area = first-inside c.pre (source_port c.args.b.now) c.loop-k-test.taken c.loop-k.inv.1 is_known in
-    let bytes : length c.loop-k.area * 2 < 2 ^ 63 = rw (as_long c.pre (source_port c.args.b.now) c.loop-k.k c.loop-k.inv.1) c.good.1.1.1.1.0.1 in
+    let at_first : c.args.firsts + c.link_from-v.result < length c.loop-k.area = first-inside c.requires (source_port c.args.b.now) c.loop-k-test.true c.loop-k.invariant.1 is_known in
+    let bytes : length c.loop-k.area * 2 < 2 ^ 63 = rw (as_long c.requires (source_port c.args.b.now) c.loop-k.k c.loop-k.invariant.1) c.well_formed.1.1.1.1.0.1 in
     omega (arith, at_first, bytes)
 
 pub offset_bounds-area-firsts : goal.offset_bounds-area-firsts
@@ -31,8 +31,8 @@ offset_bounds-area-firsts c =
       c.link_from-v.ensures,
       source_known c.requires.read (sound _ c.requires.links) c.loop-k-test.true,
     ) in
-    let at_first : c.args.firsts + c.link_from-v.result < length c.loop-k.area = first-inside c.pre (source_port c.args.b.now) c.loop-k-test.taken c.loop-k.inv.1 is_known in
-    let bytes : length c.loop-k.area * 2 < 2 ^ 63 = rw (as_long c.pre (source_port c.args.b.now) c.loop-k.k c.loop-k.inv.1) c.good.1.1.1.1.0.1 in
+    let at_first : c.args.firsts + c.link_from-v.result < length c.loop-k.area = first-inside c.requires (source_port c.args.b.now) c.loop-k-test.true c.loop-k.invariant.1 is_known in
+    let bytes : length c.loop-k.area * 2 < 2 ^ 63 = rw (as_long c.requires (source_port c.args.b.now) c.loop-k.k c.loop-k.invariant.1) c.well_formed.1.1.1.1.0.1 in
     omega (arith, at_first, bytes)
 
 pub bounds-area-firsts : goal.bounds-area-firsts
@@ -42,7 +42,7 @@ bounds-area-firsts c =
       c.link_from-v.ensures,
       source_known c.requires.read (sound _ c.requires.links) c.loop-k-test.true,
     ) in
-    let at_first : c.args.firsts + c.link_from-v.result < length c.loop-k.area = first-inside c.pre (source_port c.args.b.now) c.loop-k-test.taken c.loop-k.inv.1 is_known in
+    let at_first : c.args.firsts + c.link_from-v.result < length c.loop-k.area = first-inside c.requires (source_port c.args.b.now) c.loop-k-test.true c.loop-k.invariant.1 is_known in
     at_first
 
 pub wide-requires : goal.wide-requires
@@ -107,19 +107,19 @@ overflow_cast-area c =
 
 pub overflow_add-area : goal.overflow_add-area
 overflow_add-area c =
-    let at_key : c.args.keys + c.loop-k.k < length c.loop-k.area = key_inside c.pre (source_port c.args.b.now) c.loop-k-test.taken c.loop-k.inv.1 in
-    let bytes : length c.loop-k.area * 2 < 2 ^ 63 = rw (as_long c.pre (source_port c.args.b.now) c.loop-k.k c.loop-k.inv.1) c.good.1.1.1.1.0.1 in
+    let at_key : c.args.keys + c.loop-k.k < length c.loop-k.area = key_inside c.requires (source_port c.args.b.now) c.loop-k-test.true c.loop-k.invariant.1 in
+    let bytes : length c.loop-k.area * 2 < 2 ^ 63 = rw (as_long c.requires (source_port c.args.b.now) c.loop-k.k c.loop-k.invariant.1) c.well_formed.1.1.1.1.0.1 in
     omega (arith, at_key, bytes)
 
 pub offset_bounds-area-keys : goal.offset_bounds-area-keys
 offset_bounds-area-keys c =
-    let at_key : c.args.keys + c.loop-k.k < length c.loop-k.area = key_inside c.pre (source_port c.args.b.now) c.loop-k-test.taken c.loop-k.inv.1 in
-    let bytes : length c.loop-k.area * 2 < 2 ^ 63 = rw (as_long c.pre (source_port c.args.b.now) c.loop-k.k c.loop-k.inv.1) c.good.1.1.1.1.0.1 in
+    let at_key : c.args.keys + c.loop-k.k < length c.loop-k.area = key_inside c.requires (source_port c.args.b.now) c.loop-k-test.true c.loop-k.invariant.1 in
+    let bytes : length c.loop-k.area * 2 < 2 ^ 63 = rw (as_long c.requires (source_port c.args.b.now) c.loop-k.k c.loop-k.invariant.1) c.well_formed.1.1.1.1.0.1 in
     omega (arith, at_key, bytes)
 
 pub bounds-area-keys : goal.bounds-area-keys
 bounds-area-keys c =
-    let at_key : c.args.keys + c.loop-k.k < length c.loop-k.area = key_inside c.pre (source_port c.args.b.now) c.loop-k-test.taken c.loop-k.inv.1 in
+    let at_key : c.args.keys + c.loop-k.k < length c.loop-k.area = key_inside c.requires (source_port c.args.b.now) c.loop-k-test.true c.loop-k.invariant.1 in
     at_key
 
 pub overflow_add-k : goal.overflow_add-k

@@ -19,13 +19,13 @@ overflow_cast-area c = omega (arith, c.link_to.ensures, target-known c.requires.
 pub overflow_add-area : goal.overflow_add-area
 overflow_add-area c =
     let at_key : c.args.keys + c.loop-k.k < length c.loop-k.area = key_inside c.requires (link_to c.args.b.now) c.loop-k-test.true c.loop-k.invariant.1 in
-    let bytes : length c.loop-k.area * 2 < 2 ^ 63 = rw (as_long c.pre (link_to c.args.b.now) c.loop-k.k c.loop-k.inv.1) c.good.1.1.1.1.0.1 in
+    let bytes : length c.loop-k.area * 2 < 2 ^ 63 = rw (as_long c.requires (link_to c.args.b.now) c.loop-k.k c.loop-k.invariant.1) c.well_formed.1.1.1.1.0.1 in
     omega (arith, at_key, bytes)
 
 pub offset_bounds-area-keys : goal.offset_bounds-area-keys
 offset_bounds-area-keys c =
     let at_key : c.args.keys + c.loop-k.k < length c.loop-k.area = key_inside c.requires (link_to c.args.b.now) c.loop-k-test.true c.loop-k.invariant.1 in
-    let bytes : length c.loop-k.area * 2 < 2 ^ 63 = rw (as_long c.pre (link_to c.args.b.now) c.loop-k.k c.loop-k.inv.1) c.good.1.1.1.1.0.1 in
+    let bytes : length c.loop-k.area * 2 < 2 ^ 63 = rw (as_long c.requires (link_to c.args.b.now) c.loop-k.k c.loop-k.invariant.1) c.well_formed.1.1.1.1.0.1 in
     omega (arith, at_key, bytes)
 
 pub bounds-area-keys : goal.bounds-area-keys

@@ -1,0 +1,6 @@
+use Rattle.std.proofs.Common.{refl}
+use Rattle.lists.proofs.Upto.{get_or-zeros}
+use Rattle.agreement.proofs.listed.counter_room.Goals as goal
+
+pub returns : goal.returns
+returns c = (refl, get_or-zeros 2560)
