@@ -81,10 +81,13 @@ def clauses_of():
                     break
                 j += 1
             found["::".join(path + [m[1]])] = (req, ens)
+            params = re.match(r"(?:<[^()]*>)?\(((?:[^()]|\([^()]*\))*)\)", text[m.end() :])
+            MUTABLE["::".join(path + [m[1]])] = re.findall(r"(\w+)\s*:\s*&mut\b", params[1]) if params else []
     return found
 
 
 CLAUSES = {}
+MUTABLE = {}
 # The records' own fields that tools/respell.py turned.
 FIELDS = {}
 
@@ -157,6 +160,12 @@ class Proof:
                 ones += 1
             if ones < len(names):
                 return "." + ".".join([new, "auto", names[ones]] + rest[ones + 2 :])
+        if len(rest) > 1 and rest[0] in ("new", "last") and rest[1] in ("0", "1") and new in self.callee:
+            names = MUTABLE.get(self.callee[new], [])
+            if len(names) == 1:
+                return "." + ".".join([new, "new", names[0]] + (rest[2:] if rest[1] == "0" else rest[1:]))
+            if names:
+                return self.clauses([new, "new"], names, rest[1:])
         if rest and rest[0] == "ensures" and new in self.callee:
             return self.clauses([new, "ensures"], clause_names(self.callee[new], "ensures"), rest[1:])
         return "." + ".".join([new] + rest)
@@ -207,11 +216,12 @@ class Proof:
 
         def turn(m):
             root, fields = m[1], [f for f in m[2].split(".") if f]
-            if root not in aliases:
+            if root not in aliases or re.match(r"\s*=(?!=)", text[m.end() :]):
                 return m[0]
             return self.path(aliases[root] + fields)
 
         text = re.sub(r"(?<![\w.'₀-₉-])(" + WORD + r")((?:\.(?:" + WORD + r"))*)", turn, text)
+        text = self.flat_lists(text)
         # a negated test says now that its operand is false
         keep = lambda m: m[1].replace("c.", "c·")
         text = re.sub(r"\(not-(?:true|false) _ (c\.if-[^\s()]+)\)", keep, text)
@@ -401,6 +411,25 @@ class Proof:
             self.note(f"helper {name} takes {params}")
         self.helpers[name] = (type_, sig[4].strip("\n"), root)
 
+    def flat_lists(self, text):
+        """A pair in a tactic's list becomes two entries."""
+        at = 0
+        while True:
+            m = re.compile(r"\bomega \(arith,").search(text, at)
+            if not m:
+                return text
+            i, depth = m.start() + 6, 0
+            for j in range(i, len(text)):
+                depth += {"(": 1, ")": -1}.get(text[j], 0)
+                if depth == 0:
+                    break
+            items = []
+            for item in self.parts(text[i : j + 1]):
+                items += self.parts(item) if item.startswith("(c.") and len(self.parts(item)) > 1 else [item]
+            made = "(" + ", ".join(items) + ")"
+            text = text[:i] + made + text[j + 1 :]
+            at = i + 8
+
     def parts(self, text):
         """The parts of a tuple."""
         text = text.strip()
@@ -557,6 +586,8 @@ class Proof:
             common.add("rules")
         if "arith" in words:
             common.add("arith")
+        if "[]" in re.sub(r"--[^\n]*", "", text):
+            common.add("[]")
         if "(ap not" in text:
             common |= {"ap", "not"}
         for op in ("+", "-", "*", "/", "%", "<", "≤", "≡", "∷", "++", "∙"):

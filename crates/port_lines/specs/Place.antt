@@ -5,4 +5,4 @@ use Rattle.std.specs.Borrow.{Bor}
 
 -- r starts at word i of s: in the same block, and two bytes further for each word before
 abbrev pub StartsAt : Bor (List ℕ) → Bor (List ℕ) → ℕ → Type 0
-StartsAt r s i = (r.ptr.0 ≡ s.ptr.0) × (r.ptr.1 ≡ s.ptr.1 + 2 * i)
+StartsAt r s i = (r.ref_ptr.0 ≡ s.ref_ptr.0) × (r.ref_ptr.1 ≡ s.ref_ptr.1 + 2 * i)

@@ -1,6 +1,7 @@
 // Translated from `lines_at_port` of src/algorithms/convex/line_convex_checker.rs of portgraph (88172a3c8e, Apache-2.0, see NOTICE), and
 // changed: the links of a node's earlier ports are counted in one pass over the map's links.
 #![tactic(auto)]
+
 ghost use Rattle.std.specs.Prelude.{◌≡◌, ◌+◌, ◌<◌};
 ghost use Rattle.lists.specs.Lists.{one};
 ghost use Rattle.paper.specs.Map.{P};

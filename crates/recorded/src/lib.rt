@@ -1,5 +1,6 @@
 // The file of recorded answers: the parts of its lines, its maps laid out as bytes, its tables, and answers held against what it says.
 #![tactic(auto)]
+
 pub mod comparing;
 pub mod held;
 pub mod laying;

@@ -1,6 +1,7 @@
 // Taking in a caller's list: refusals 8, 9 and 10 in one step, for a list of any length, from words or from bytes. What passes
 // stands in the area as at most n nodes, each once, and nothing later sees the caller's list.
 #![tactic(auto)]
+
 ghost use Rattle.std.specs.Prelude.{◌≡◌, ◌≢◌, ◌+◌, ◌*◌, ◌<◌, ◌≤◌, leb, length};
 ghost use Rattle.lists.specs.Found.{absent};
 ghost use Rattle.paper.specs.Refusals.{earliest, passed};

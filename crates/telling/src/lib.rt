@@ -1,6 +1,7 @@
 // An answer told in numbers: 1 is an answer or yes; 2 is no, not contiguous, not extendable or no path; 3 is refused. What a case has is written to
 // the parameters lent for it, and the others stay as they were.
 #![tactic(auto)]
+
 ghost use Rattle.std.specs.Prelude.{◌≡◌, [], ◌∷◌};
 ghost use Rattle.paper.specs.Exports.{in_count, in_line_reply, in_pair, in_reply, in_shown, in_written, tell};
 ghost use Rattle.refusals.specs.Said.{number_of, place_of};

@@ -11,10 +11,10 @@ pub slice_bounds-put_path-end : goal.slice_bounds-put_path-end
 slice_bounds-put_path-end c = count-within c.args.path.now c.in-Path.is c.requires.answer_in_bounds
 
 pub put_path-requires : goal.put_path-requires
-put_path-requires c = omega (arith, (c.requires.path_len_bound, c.requires.in_bounds), part-within c.args.path.now c.in-Path.is)
+put_path-requires c = omega (arith, c.requires.path_len_bound, c.requires.in_bounds, part-within c.args.path.now c.in-Path.is)
 
 pub returns-in-Path : goal.returns-in-Path
-returns-in-Path c = record { put = put_as (ap show_way (part-is c.args.path.now c.in-Path.is)) c.put_path.ensures.put; upper_bound = omega (arith, c.put_path.ensures.upper_bound, (c.requires.path_len_bound, c.requires.in_bounds), part-within c.args.path.now c.in-Path.is) }
+returns-in-Path c = record { put = put_as (ap show_way (part-is c.args.path.now c.in-Path.is)) c.put_path.ensures.put; upper_bound = omega (arith, c.put_path.ensures.upper_bound, c.requires.path_len_bound, c.requires.in_bounds, part-within c.args.path.now c.in-Path.is) }
 
 pub returns-in-NoPath : goal.returns-in-NoPath
 unfolding show_way

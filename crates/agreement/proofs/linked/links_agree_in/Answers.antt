@@ -16,7 +16,7 @@ offset_bounds-pairs-count c = omega (arith, c.requires.linked.few)
 
 pub same_groups-requires : goal.same_groups-requires
 same_groups-requires c = links_matching c.requires c.link_ends.ensures.0 c.link_ends.ensures.1 c.neighbours.ensures.0 c.neighbours.ensures.1
-    c.group_by.new.0 c.group_by-2.new.0 c.group_by.ensures c.group_by-2.ensures
+    c.group_by.new.room c.group_by-2.new.room c.group_by.ensures c.group_by-2.ensures
 
 pub shape_of-links : goal.shape_of-links
 shape_of-links c = c.group_by.auto.room ∙ c.link_ends.auto.froms
@@ -26,4 +26,4 @@ shape_of-pairs c = c.group_by-2.auto.room ∙ c.neighbours.auto.froms
 
 pub returns : goal.returns
 returns c = links-told c.requires c.link_ends.ensures.0 c.link_ends.ensures.1 c.neighbours.ensures.0 c.neighbours.ensures.1
-    c.group_by.new.0 c.group_by-2.new.0 c.group_by.ensures c.group_by-2.ensures c.same_groups.ensures
+    c.group_by.new.room c.group_by-2.new.room c.group_by.ensures c.group_by-2.ensures c.same_groups.ensures

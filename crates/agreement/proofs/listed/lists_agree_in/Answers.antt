@@ -15,10 +15,10 @@ pub offset_bounds-room-count : goal.offset_bounds-room-count
 offset_bounds-room-count c = omega (arith, c.requires.tables.sized)
 
 pub same_groups-requires : goal.same_groups-requires
-same_groups-requires c = lists_matching c.requires c.line_numbers.ensures c.put_in.ensures c.group_by.new.0 c.group_by.ensures
+same_groups-requires c = lists_matching c.requires c.line_numbers.ensures c.put_in.ensures c.group_by.new.room c.group_by.ensures
 
 pub shape_of-room : goal.shape_of-room
 shape_of-room c = c.group_by.auto.room ∙ c.put_in.auto.room
 
 pub returns : goal.returns
-returns c = lists-told c.requires c.line_numbers.ensures c.put_in.ensures c.group_by.new.0 c.group_by.ensures c.same_groups.ensures
+returns c = lists-told c.requires c.line_numbers.ensures c.put_in.ensures c.group_by.new.room c.group_by.ensures c.same_groups.ensures

@@ -1,0 +1,5 @@
+use Rattle.port_lines.proofs.PortLines.{first_counted}
+use Rattle.port_lines.proofs.first_line.Goals as goal
+
+pub returns : goal.returns
+returns c = first_counted c.requires _ c.port_offset-offset.ensures c.is_output-out.ensures c.port_node-v.ensures c.links_among.ensures
