@@ -1,5 +1,6 @@
 // The acceptance test of the tables that stand in a lent area: refusal 7.
 #![tactic(auto)]
+
 pub mod entries;
 pub mod lines;
 pub mod order;

@@ -1,5 +1,6 @@
 // The intervals of a list of nodes: collected one position at a time, and tested line by line.
 #![tactic(auto)]
+
 pub mod collect;
 pub mod filling;
 pub mod layout;

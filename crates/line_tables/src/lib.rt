@@ -1,6 +1,7 @@
 // Translated from src/algorithms/convex/line_convex_checker.rs of portgraph (88172a3c8e, Apache-2.0, see NOTICE), and changed: `new`
 // lays the lines into the lent area.
 #![tactic(auto)]
+
 pub mod frontier;
 pub mod nodes;
 pub mod spread;

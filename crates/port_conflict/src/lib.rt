@@ -1,6 +1,7 @@
 // Translated from src/algorithms/convex/line_convex_checker.rs of portgraph (88172a3c8e, Apache-2.0, see NOTICE), and changed: `is_convex`
 // finds the first links of the outputs in one pass over the links, with marks for the listed ports in place of a set.
 #![tactic(auto)]
+
 pub mod links;
 pub mod marks;
 pub mod room;

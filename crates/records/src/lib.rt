@@ -1,5 +1,6 @@
 // Records in a caller's words: refusals 12 and 13, and which nodes lie inside them.
 #![tactic(auto)]
+
 pub mod bad;
 pub mod inside;
 pub mod layout;

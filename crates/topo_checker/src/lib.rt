@@ -1,6 +1,7 @@
 // Translated from src/algorithms/convex/topo_convex_checker.rs of portgraph (88172a3c8e, Apache-2.0, see NOTICE), and changed: marks by
 // place in the lent area for the two sets, the order from the area's tables, and an unknown node is an answer.
 #![tactic(auto)]
+
 pub mod layout;
 pub mod listing;
 pub mod near;

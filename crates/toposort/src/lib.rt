@@ -1,6 +1,7 @@
 // Translated from src/algorithms/toposort.rs of portgraph (88172a3c8e, Apache-2.0, see NOTICE), and changed: the whole order is laid
 // into the lent area, unfiltered, from all nodes without linked inputs, and a cycle is an answer.
 #![tactic(auto)]
+
 pub mod ordering;
 pub mod queue;
 pub mod turns;

@@ -1,6 +1,7 @@
 // Translated from src/algorithms/convex/line_convex_checker.rs of portgraph (88172a3c8e, Apache-2.0, see NOTICE), and changed: the queue, the
 // visited nodes and the records by line stand in the lent area, and the answer carries its count.
 #![tactic(auto)]
+
 pub mod links;
 pub mod lows;
 pub mod queue;

@@ -1,0 +1,13 @@
+use Rattle.std.proofs.Common.{arith}
+use Rattle.tables.proofs.Usable.{still_usable}
+use Rattle.port_conflict.proofs.Answering.{answers}
+use Rattle.port_conflict.proofs.check_ports.Goals as goal
+
+pub mark_lists-known-requires : goal.mark_lists-known-requires
+mark_lists-known-requires c = record { fits = c.lay_room-room.ensures; sizes_in_bounds = omega (arith, c.requires.placed.after-scratch, c.requires.room) }
+
+pub look_at_links-requires : goal.look_at_links-requires
+look_at_links-requires c = record { usable = still_usable c.requires c.mark_lists-known.ensures.kept; fits = c.lay_room-room.ensures }
+
+pub returns : goal.returns
+returns c = answers c.requires c.mark_lists-known.ensures c.look_at_links.ensures

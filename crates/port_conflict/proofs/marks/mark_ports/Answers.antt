@@ -1,0 +1,20 @@
+use Rattle.std.proofs.Common.{ap, arith, not}
+use Rattle.port_conflict.proofs.Marking.{marking_starts, marking_next, unknown_entry, all_known}
+use Rattle.port_conflict.proofs.marks.mark_ports.Goals as goal
+
+pub loop-i-init : goal.loop-i-init
+loop-i-init c = marking_starts c.args.area.now c.args.marks c.args.p c.requires c.fill.ensures c.args.ports.now
+
+pub returns-then-not-mark_port : goal.returns-then-not-mark_port
+returns-then-not-mark_port c = unknown_entry c.args.area.now c.args.marks c.args.p c.requires c.fill.ensures c.args.ports.now c.loop-i.invariant c.loop-i-test.true
+    c.wide.ensures c.mark_port.ensures (ap not c.if-not-mark_port.true)
+
+pub loop-i-smaller : goal.loop-i-smaller
+loop-i-smaller c = omega arith
+
+pub loop-i-preserved : goal.loop-i-preserved
+loop-i-preserved c = marking_next c.args.area.now c.args.marks c.args.p c.requires c.fill.ensures c.args.ports.now c.loop-i.invariant c.loop-i-test.true
+    c.wide.ensures c.mark_port.ensures (ap not c.if-not-mark_port.false)
+
+pub returns : goal.returns
+returns c = all_known c.args.area.now c.args.marks c.args.p c.requires c.fill.ensures c.args.ports.now c.loop-i.invariant c.loop-i-test.false

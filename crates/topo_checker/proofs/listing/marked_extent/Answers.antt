@@ -1,0 +1,14 @@
+use Rattle.std.proofs.Common.{arith, refl, rules}
+use Rattle.topo_checker.proofs.Taking.{extent_next, extent_all}
+use Rattle.topo_checker.specs.Listing.{extent_below}
+use Rattle.topo_checker.proofs.listing.marked_extent.Goals as goal
+
+pub loop-i-init : goal.loop-i-init
+unfolding extent_below
+loop-i-init c = (search rules, refl)
+
+pub loop-i-preserved : goal.loop-i-preserved
+loop-i-preserved c = (omega (arith, c.loop-i-test.true), extent_next _ _ _ c.loop-i.invariant.1 c.widened-e.ensures)
+
+pub returns : goal.returns
+returns c = extent_all _ _ c.loop-i.invariant.1 c.loop-i.invariant.0 c.loop-i-test.false
