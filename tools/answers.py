@@ -122,8 +122,11 @@ class Proof:
                     if path:
                         field = "ensures" if field.endswith("-ensures") else field
                         self.arms.setdefault((canon(step), tuple(path)), (arm[0], field))
+        self.keys = {p[0].replace("At-match-", ""): p[2][1] for p in data["places"] if p[0].startswith("At-match-keys")}
         self.loops = [(l[0], l[1], ch) for l, ch in zip(data["loops"], data["changed"])]
         self.helpers = {}
+        self.backs = []
+        self.unfolds = {}
         self.bad = []
 
     def note(self, text):
@@ -135,8 +138,18 @@ class Proof:
         if not fields:
             return ""
         head, rest = {"well-formed": "well_formed", "good": "well_formed", "pre": "requires"}.get(fields[0], fields[0]), fields[1:]
-        if re.match(r"(if|loop)", head) and rest:
-            rest = [{"taken": "true", "left": "false", "inv": "invariant"}.get(rest[0], rest[0])] + rest[1:]
+        if rest and re.match(r"if\d|loop\d*-test", head):
+            rest = [{"taken": "true", "left": "false"}.get(rest[0], rest[0])] + rest[1:]
+        if rest and re.match(r"loop\d*$", head):
+            rest = [{"inv": "invariant"}.get(rest[0], rest[0])] + rest[1:]
+            for _, variables, _ in self.loops:
+                rest = [canon(rest[0]) if canon(rest[0]) in variables else rest[0]] + rest[1:]
+        if head == "match" and rest and re.fullmatch(r"keys\d+", rest[0]):
+            new = self.keys.get(rest[0])
+            if new == "in_default":
+                return "." + ".".join(["in_default", "not-" + self.keys["keys1"].split("-")[1]] + rest[1:])
+            if new:
+                return "." + ".".join([new, "is"] + rest[1:])
         fields = [head] + rest
         if head in ("args", "ranges", "lifetimes", "well_formed", "auto", "type_inv"):
             return "." + ".".join(fields)
@@ -196,6 +209,9 @@ class Proof:
     def term(self, text, roots=("c",)):
         """The body of an answer: lets of paths go, paths are turned, helpers' calls lose their argument."""
         aliases = {r: [] for r in roots}
+        # a step back by a function of the file's own
+        for back in self.backs:
+            text = re.sub(r"\(" + re.escape(back) + r" (\w+)((?:\." + WORD + r")*)\)", r"\1\2.before", text)
         let = re.compile(r"let\s+(" + WORD + r")\s+=\s+(" + WORD + r")((?:\." + WORD + r")*)\s+in\b\s*")
         at = 0
         while True:
@@ -216,7 +232,7 @@ class Proof:
 
         def turn(m):
             root, fields = m[1], [f for f in m[2].split(".") if f]
-            if root not in aliases or re.match(r"\s*=(?!=)", text[m.end() :]):
+            if root not in aliases or (not fields and re.match(r"\s*=(?!=)", text[m.end() :])):
                 return m[0]
             return self.path(aliases[root] + fields)
 
@@ -312,7 +328,9 @@ class Proof:
                 invariants.append((comment, name, chunk))
             elif re.match(r"(?:pub )?" + re.escape(name or "") + r"\s*:\s*tie\.Need-", chunk):
                 by_name[name] = (comment, chunk)
-            elif name == "module" or re.search(r"\((\w+) : tie\.(After|In|At|Start|Both)", chunk):
+            elif re.match(r"abbrev " + re.escape(name or "") + r" : tie\.\w[\w-]* → tie\.\w+\n", chunk):
+                self.backs.append(name)
+            elif name == "module" or re.search(r"\((\w+) : tie\.(?!Need)[A-Z]", chunk):
                 helper_text.append((comment, name, chunk))
             else:
                 others.append((comment, name, chunk))
@@ -396,7 +414,7 @@ class Proof:
             return
         type_, params = sig[1], sig[3].split()
         if sig[2]:
-            self.note(f"helper {name} unfolds {sig[2].strip()}")
+            self.unfolds[name] = sig[2].split()[1:]
         if not sectioned:
             t = re.match(r"\(" + root + r" : tie\.[^()]+\)\s*→\s*(.*)", type_, re.S)
             if not t or not params:
@@ -512,6 +530,9 @@ class Proof:
             for h in wanted:
                 type_, hbody, hroot = self.helpers[h]
                 lets += f"    let {h} : {' '.join(self.term(type_, (hroot,)).split())} = {self.term(hbody, (hroot,)).strip()} in\n"
+            for h in wanted:
+                for u in self.unfolds.get(h, []):
+                    unfolding = " ".join(sorted(set(unfolding.split()) | {u}))
             names = []
             old = [o for o, n in self.data["needs"] if n == need]
             asked = self.data["asked"].get(need) or (self.data["asked"].get(old[0]) if old else None)

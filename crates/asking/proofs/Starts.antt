@@ -7,8 +7,6 @@ use borrow.Author.Tests.{lt-ltb, le-ltb}
 use mathlib.Core.Path.{◌≡◌, refl, sym, ap, ◌∙◌, subst}
 use mathlib.Core.Bool.{Bool, cond}
 use mathlib.Core.List.{List, [], ◌∷◌, ◌++◌}
-use types.Run.{OneOf, miss}
-use denote.Enum.Declared.{tag_of}
 use lib.ListN.{length, replicate, take}
 use lib.Dec.{ltb}
 use lib.Seq.{take_all, length-take-le}
@@ -24,7 +22,6 @@ use Rattle.text.proofs.Printed.{first-is, first_short}
 use Rattle.answers.specs.Said.{prepared_said}
 use Rattle.answers.specs.declared.Prepared.{Prepared}
 use Rattle.answers.specs.declared.Prepared.TheVariants.{Lines, Refused}
-use Rattle.answers.specs.contracts.Prepared.{the_type}
 use Rattle.asking.specs.Standing.{prepared_area, Standing}
 use Rattle.asking.specs.Says.{Says}
 use Rattle.asking.specs.Printed.{Shown}
@@ -75,8 +72,8 @@ module _ (says : Says) (b input : List ℕ) where
 -- ---- as the program meets them: the map is within its length, and preparing has answered r
 
 -- without lines preparing has refused
-never_lines : (r : Prepared) → OneOf (1 ∷ []) (tag_of the_type r) → (k : ℕ) → prepared_said r ≡ answered k → ⊥
-never_lines (Lines j) h k e = miss (1 ∷ []) 0 tt h
+never_lines : (r : Prepared) → ((k : ℕ) → r ≡ Lines k → ⊥) → (k : ℕ) → prepared_said r ≡ answered k → ⊥
+never_lines (Lines j) h k e = h j refl
 never_lines (Refused x) h k e = never_answered e
 
 module _ (b input a : List ℕ) {m : List ℕ} (r : Prepared) (small : length b ≤ 65000) (room : 31751 ≤ length a)
@@ -87,7 +84,7 @@ module _ (b input a : List ℕ) {m : List ℕ} (r : Prepared) (small : length b 
   said-there : (prepare b (replicate (W b) 0)).answer ≡ prepared_said r
   said-there = sym (said ∙ same_answer b a room)
 
-  pub refused_map : (says : Says) → OneOf (1 ∷ []) (tag_of the_type r) → output says b input ≡ refused_line (prepared_said r)
+  pub refused_map : (says : Says) → ((k : ℕ) → r ≡ Lines k → ⊥) → output says b input ≡ refused_line (prepared_said r)
   unfolding refused_line
   refused_map says h = within says b input small ∙ go (prepared_said r) refl said-there
     where

@@ -4,8 +4,6 @@ use Prim.Native.Nat.{ℕ, ◌-◌, ◌/◌, ◌≤◌, ◌<◌}
 use native.Mathlib.Omega.{arith}
 use mathlib.Core.Path.{◌≡◌, refl, sym, ap, ◌∙◌, subst}
 use mathlib.Core.List.{List, [], ◌∷◌, ◌++◌}
-use types.Run.{OneOf, miss}
-use denote.Enum.Declared.{tag_of}
 use lib.ListN.{length, take}
 use lib.Seq.{sets}
 use Rattle.lists.proofs.Sections.{part-sets_in}
@@ -17,7 +15,6 @@ use Rattle.path_theory.proofs.levels.Bounds.{back-path-room}
 use Rattle.answers.specs.Said.{path_said}
 use Rattle.answers.specs.declared.PathAnswer.{PathAnswer}
 use Rattle.answers.specs.declared.PathAnswer.TheVariants as Asked
-use Rattle.answers.specs.contracts.PathAnswer.{the_type}
 use Rattle.refusals.specs.Said.{ruled, refused_by, ruling}
 use Rattle.refusals.specs.declared.Refusal.{Refusal}
 use Rattle.words.proofs.RoundTrip.{Below}
@@ -92,8 +89,8 @@ list-path {b} usable {list} took got = list-found usable took (back_path b) (bac
 -- ---- into the bytes
 
 -- an answer that is not of a path
-pub no_steps_lem : (r : PathAnswer) → OneOf (1 ∷ 2 ∷ []) (tag_of the_type r) → (k : ℕ) → path_said r ≡ answered (steps k) → ⊥
-no_steps_lem (Asked.Path n) h k e = miss (1 ∷ 2 ∷ []) 0 tt h
+pub no_steps_lem : (r : PathAnswer) → ((n : ℕ) → r ≡ Asked.Path n → ⊥) → (k : ℕ) → path_said r ≡ answered (steps k) → ⊥
+no_steps_lem (Asked.Path n) h k e = h n refl
 no_steps_lem Asked.NoPath h k e = let z : ◌≡◌ {A = ℕ} 0 1 = cc in omega arith
 no_steps_lem (Asked.Refused x) h k e = let z : ◌≡◌ {A = ℕ} 0 1 = cc in omega arith
 

@@ -4,8 +4,6 @@ use Prim.Native.Nat.{ℕ}
 use mathlib.Core.Path.{◌≡◌, refl, sym, ap, ap₂, ◌∙◌, subst}
 use mathlib.Core.Logic.{◌≢◌}
 use mathlib.Core.List.{List, [], ◌∷◌, ◌++◌}
-use types.Run.{OneOf}
-use denote.Enum.Declared.{tag_of}
 use Rattle.paper.specs.Lines.{tables}
 use Rattle.paper.specs.Area.{cleared, prepared}
 use Rattle.paper.specs.Refusals.{Ruling, passed, refusal, Answer, answered, on_refusal, decide, rule45, rule6}
@@ -15,7 +13,6 @@ use Rattle.neighbours.specs.declared.Listing.{Listing}
 use Rattle.toposort.specs.declared.ordering.Ordered.{Ordered}
 use Rattle.toposort.specs.declared.ordering.Ordered.TheVariants.{Done}
 use Rattle.toposort.specs.Laid.{OrderLaid, OrderLeft, ordered_said}
-use Rattle.toposort.specs.contracts.ordering.Ordered.{the_type}
 use Rattle.toposort.proofs.Refusing.{passed-said, passed-kept}
 use Rattle.toposort.proofs.Sizing.{is_refusal, refused_left}
 use Rattle.line_tables.specs.Laying.{Laying}
@@ -43,7 +40,7 @@ left_over (refusal n v ∷ us) vs ne x y m = refl
 module _ (b a : List ℕ) {o : Ordered} {m : List ℕ} (known : OrderLeft b a o m) where
   -- ---- a refusal
 
-  pub refused_up : (x : Refusal) → OneOf (1 ∷ []) (tag_of the_type o) → ruled x ≡ ruling (ordered_said o)
+  pub refused_up : (x : Refusal) → ((at : Layout) (links : Listing) → o ≡ Done at links → ⊥) → ruled x ≡ ruling (ordered_said o)
       → record { answer = refused_by x; area = m } ≡ prepare b a
   unfolding prepare ruling
   refused_up x h e =

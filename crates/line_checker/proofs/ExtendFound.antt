@@ -3,10 +3,8 @@
 -- Rests on Out and RecordCalls.
 use Prim.Native.Nat.{ℕ, ◌≤◌, ◌<◌}
 use native.Mathlib.Omega.{arith}
-use mathlib.Core.Path.{◌≡◌, sym, ap, ◌∙◌, subst}
+use mathlib.Core.Path.{◌≡◌, refl, sym, ap, ◌∙◌, subst}
 use mathlib.Core.List.{List, [], ◌∷◌}
-use types.Run.{OneOf, miss}
-use denote.Enum.Declared.{tag_of}
 use lib.ListN.{length, take}
 use Rattle.paper.specs.Intervals.{Records}
 use Rattle.paper.specs.Records.{extend, records_in}
@@ -16,7 +14,6 @@ use Rattle.accepted_theory.proofs.Records.{extend_same}
 use Rattle.answers.specs.Said.{extend_said}
 use Rattle.answers.specs.declared.ExtendAnswer.{ExtendAnswer}
 use Rattle.answers.specs.declared.ExtendAnswer.TheVariants as Asked
-use Rattle.answers.specs.contracts.ExtendAnswer.{the_type}
 use Rattle.refusals.specs.Said.{ruled, refused_by}
 use Rattle.refusals.specs.declared.Refusal.{Refusal}
 use Rattle.refusals.proofs.Rulings.{then_decides}
@@ -73,7 +70,7 @@ module _ {b a : List ℕ} {at : Layout} (usable : Usable b a at) {slots : LineSl
       same = sym (extend_same (tables_still usable tested.kept) (records_in words count) v (omega (arith, usable.read.nodes)))
 
 -- an answer that is not of records
-pub not_made : (r : ExtendAnswer) → OneOf (1 ∷ 2 ∷ []) (tag_of the_type r) → (k : ℕ) → extend_said r ≡ answered (wrote k) → ⊥
-not_made (Asked.Records n) h k e = miss (1 ∷ 2 ∷ []) 0 tt h
+pub not_made : (r : ExtendAnswer) → ((n : ℕ) → r ≡ Asked.Records n → ⊥) → (k : ℕ) → extend_said r ≡ answered (wrote k) → ⊥
+not_made (Asked.Records n) h k e = h n refl
 not_made Asked.NotExtendable h k e = let z : ◌≡◌ {A = ℕ} 0 1 = cc in omega arith
 not_made (Asked.Refused x) h k e = let z : ◌≡◌ {A = ℕ} 0 1 = cc in omega arith

@@ -5,8 +5,6 @@ use native.Mathlib.Omega.{arith}
 use mathlib.Core.Path.{◌≡◌, refl, sym, ap, ◌∙◌, subst}
 use mathlib.Core.Logic.{◌≢◌}
 use mathlib.Core.List.{List, [], ◌∷◌, flat_map}
-use types.Run.{OneOf, miss}
-use denote.Enum.Declared.{tag_of}
 use lib.ListN.{length, take}
 use Rattle.paper.specs.Intervals.{Records, records, intervals, touched}
 use Rattle.paper.specs.Records.{words_of_records}
@@ -15,7 +13,6 @@ use Rattle.paper.specs.Calls.{Written, wrote, said, words_of, needed, line_rules
 use Rattle.answers.specs.Said.{intervals_said}
 use Rattle.answers.specs.declared.IntervalsAnswer.{IntervalsAnswer}
 use Rattle.answers.specs.declared.IntervalsAnswer.TheVariants as Asked
-use Rattle.answers.specs.contracts.IntervalsAnswer.{the_type}
 use Rattle.refusals.specs.Said.{ruled, refused_by, ruling}
 use Rattle.refusals.specs.declared.Refusal.{Refusal}
 use Rattle.take_in.specs.Listed.{list_in}
@@ -98,7 +95,7 @@ empty_into b a at list buffer e =
     eq_nil (x ∷ xs) e = absurd (omega (arith, e))
 
 -- an answer that is not of records
-pub not_made : (r : IntervalsAnswer) → OneOf (1 ∷ 2 ∷ []) (tag_of the_type r) → (k : ℕ) → intervals_said r ≡ answered (wrote k) → ⊥
-not_made (Asked.Records n) h k e = miss (1 ∷ 2 ∷ []) 0 tt h
+pub not_made : (r : IntervalsAnswer) → ((n : ℕ) → r ≡ Asked.Records n → ⊥) → (k : ℕ) → intervals_said r ≡ answered (wrote k) → ⊥
+not_made (Asked.Records n) h k e = h n refl
 not_made Asked.NotContiguous h k e = let z : ◌≡◌ {A = ℕ} 0 1 = cc in omega arith
 not_made (Asked.Refused x) h k e = let z : ◌≡◌ {A = ℕ} 0 1 = cc in omega arith

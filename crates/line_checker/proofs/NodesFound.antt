@@ -2,10 +2,8 @@
 -- Rests on Out, RecordCalls and accepted_theory.
 use Prim.Native.Nat.{ℕ}
 use native.Mathlib.Omega.{arith}
-use mathlib.Core.Path.{◌≡◌, sym, ap, ◌∙◌, subst}
+use mathlib.Core.Path.{◌≡◌, refl, sym, ap, ◌∙◌, subst}
 use mathlib.Core.List.{List, [], ◌∷◌}
-use types.Run.{OneOf, miss}
-use denote.Enum.Declared.{tag_of}
 use lib.ListN.{length, take}
 use Rattle.paper.specs.Records.{nodes_in, records_in}
 use Rattle.paper.specs.Refusals.{Ruling, passed, answer, answered, rule12, rule13}
@@ -13,7 +11,6 @@ use Rattle.accepted_theory.proofs.Records.{nodes_in-same}
 use Rattle.answers.specs.Said.{nodes_said}
 use Rattle.answers.specs.declared.NodesAnswer.{NodesAnswer}
 use Rattle.answers.specs.declared.NodesAnswer.TheVariants as Asked
-use Rattle.answers.specs.contracts.NodesAnswer.{the_type}
 use Rattle.refusals.specs.Said.{ruled, refused_by}
 use Rattle.refusals.specs.declared.Refusal.{Refusal}
 use Rattle.nodes_in.specs.Collected.{FoundIn}
@@ -49,6 +46,6 @@ module _ {b a : List ℕ} {at : Layout} (usable : Usable b a at) {slots : LineSl
       same = sym (nodes_in-same (tables_still usable tested.kept) (records_in words count))
 
 -- an answer that is not of nodes
-pub not_nodes : (r : NodesAnswer) → OneOf (1 ∷ []) (tag_of the_type r) → (k : ℕ) → nodes_said r ≡ answered k → ⊥
-not_nodes (Asked.Nodes n) h k e = miss (1 ∷ []) 0 tt h
+pub not_nodes : (r : NodesAnswer) → ((n : ℕ) → r ≡ Asked.Nodes n → ⊥) → (k : ℕ) → nodes_said r ≡ answered k → ⊥
+not_nodes (Asked.Nodes n) h k e = h n refl
 not_nodes (Asked.Refused x) h k e = let z : ◌≡◌ {A = ℕ} 0 1 = cc in omega arith

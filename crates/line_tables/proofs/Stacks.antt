@@ -154,7 +154,7 @@ module _ {b a : List ℕ} {n l p : ℕ} {ends : List End} (links : L b ≡ l) (s
         }
       where
         few : (r : ℕ) (t : Bool) → eqb e.port r ≡ t → height r (e ∷ ends) ≤ times r (out_keys b)
-        few r true t = rw (← eqb-true e.port r t) (omega (arith, higher e ends, fits))
+        few r true t = subst (λ (x : ℕ). height x (e ∷ ends) ≤ times x (out_keys b)) (eqb-true e.port r t) (omega (arith, higher e ends, fits))
         few r false t = omega (arith, elsewhere_high e ends r (eqb-false e.port r t), s.few r)
 
         tops : (r : ℕ) → r < p → (t : Bool) → eqb e.port r ≡ t

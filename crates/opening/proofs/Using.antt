@@ -5,8 +5,6 @@ use native.Mathlib.Omega.{arith}
 use mathlib.Core.Path.{◌≡◌, refl, sym, ap, ◌∙◌, subst}
 use mathlib.Core.Logic.{◌≢◌}
 use mathlib.Core.List.{List, [], ◌∷◌}
-use types.Run.{OneOf, miss}
-use denote.Enum.Declared.{tag_of}
 use lib.ListN.{replicate, length-replicate}
 use lib.Seq.{sets}
 use Rattle.paper.specs.Map.{N, L, P}
@@ -29,13 +27,12 @@ use Rattle.toposort.proofs.Refusing.{passed-said}
 use Rattle.opening.specs.declared.Opened.{Opened}
 use Rattle.opening.specs.declared.Opened.TheVariants.{Ready, Refused}
 use Rattle.opening.specs.Opened.{HasScratch, OpenLeft, layout_of, opened_said, scratch_zeroed}
-use Rattle.opening.specs.contracts.Opened.{the_type}
 use Rattle.opening.proofs.Opening.{zeroed_is}
 
 -- an opening that is not ready is a refusal
-pub is_refusal : (o : Opened) → OneOf (1 ∷ []) (tag_of the_type o) → ruling (opened_said o) ≢ passed
+pub is_refusal : (o : Opened) → ((at : Layout) → o ≡ Ready at → ⊥) → ruling (opened_said o) ≢ passed
 unfolding ruling
-is_refusal (Ready at) h e = miss (1 ∷ []) 0 tt h
+is_refusal (Ready at) h e = h at refl
 is_refusal (Refused x) h e = no_refusal (sym e)
 
 -- ---- 01's places are places

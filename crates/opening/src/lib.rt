@@ -1,5 +1,6 @@
 // How every call but preparing opens: refusals 1, 2, 3, 4, 5 and 7 in their order, with the scratch set to 0 past 3.
 #![tactic(auto)]
+
 pub mod ends;
 
 ghost use Rattle.std.specs.Prelude.{◌≡◌, [], ◌∷◌};

@@ -5,13 +5,10 @@ use native.Mathlib.Omega.{arith}
 use mathlib.Core.Path.{◌≡◌, refl}
 use mathlib.Core.Bool.{Bool, false}
 use mathlib.Core.List.{[], ◌∷◌}
-use types.Run.{OneOf, miss}
-use denote.Enum.Declared.{tag_of}
 use Rattle.paper.specs.Refusals.{answered, refused}
 use Rattle.port_conflict.specs.Said.{ports_said, after_marks}
 use Rattle.port_conflict.specs.declared.PortsFound.{PortsFound}
 use Rattle.port_conflict.specs.declared.PortsFound.TheVariants.{Unknown, Conflict, Clear}
-use Rattle.port_conflict.specs.contracts.PortsFound.{the_type}
 
 pub known-clear : (r : PortsFound) → ports_said r ≡ answered false → r ≡ Clear
 known-clear (Unknown i) e = cc
@@ -23,12 +20,12 @@ known_refused (Unknown i) met e = e
 known_refused Conflict met e = cc
 known_refused Clear met e = cc
 
-pub not_clear : (r : PortsFound) → OneOf (0 ∷ 1 ∷ []) (tag_of the_type r) → ports_said r ≡ answered false → ⊥
+pub not_clear : (r : PortsFound) → (r ≡ Clear → ⊥) → ports_said r ≡ answered false → ⊥
 not_clear (Unknown i) h e = let z : ◌≡◌ {A = ℕ} 0 1 = cc in omega arith
 not_clear Conflict h e = let z : ◌≡◌ {A = ℕ} 0 1 = cc in omega arith
-not_clear Clear h e = miss (0 ∷ 1 ∷ []) 2 tt h
+not_clear Clear h e = h refl
 
-pub told_already : (r : PortsFound) → OneOf (0 ∷ 1 ∷ []) (tag_of the_type r) → (met : Bool) → ports_said r ≡ after_marks r met
+pub told_already : (r : PortsFound) → (r ≡ Clear → ⊥) → (met : Bool) → ports_said r ≡ after_marks r met
 told_already (Unknown i) h met = refl
 told_already Conflict h met = refl
-told_already Clear h met = absurd (miss (0 ∷ 1 ∷ []) 2 tt h)
+told_already Clear h met = absurd (h refl)

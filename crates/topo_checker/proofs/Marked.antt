@@ -7,8 +7,6 @@ use mathlib.Core.Bool.{Bool, true, false, not, cond}
 use mathlib.Core.List.{List, [], ◌∷◌}
 use lib.ListN.{length}
 use borrow.Author.Tests.{le-leb, lt-leb}
-use types.Run.{OneOf, miss}
-use denote.Enum.Declared.{tag_of}
 use Rattle.lists.specs.Lists.{greatest, least}
 use Rattle.paper.specs.Intervals.{Yes, No}
 use Rattle.convexity_theory.specs.places.Passed.{passed_below, reply_of}
@@ -19,20 +17,19 @@ use Rattle.topo_checker.specs.Passing.{Unpassed, PlacesPassed, Fresh, MarkedBy, 
 use Rattle.topo_checker.specs.declared.layout.OrderRoom.{OrderRoom}
 use Rattle.topo_checker.specs.declared.listing.Extent.{Extent}
 use Rattle.topo_checker.specs.declared.listing.Extent.TheVariants.{Nothing, One, Range}
-use Rattle.topo_checker.specs.contracts.listing.Extent.{the_type}
 
 -- an extent in one of its first two cases has one place at most
-pub few_places : (places : List ℕ) (e : Extent) → Spans places e → OneOf (0 ∷ 1 ∷ []) (tag_of the_type e) → length places ≤ 1
+pub few_places : (places : List ℕ) (e : Extent) → Spans places e → ((first last : ℕ) → e ≡ Range first last → ⊥) → length places ≤ 1
 few_places places Nothing s h = omega (arith, ap length s)
 few_places places (One i) s h = omega (arith, ap length s)
-few_places places (Range first last) s h = absurd (miss (0 ∷ 1 ∷ []) 2 tt h)
+few_places places (Range first last) s h = absurd (h first last refl)
 
 turned_round : (fed : Bool) → cond (not fed) Yes No ≡ cond fed No Yes
 turned_round true = refl
 turned_round false = refl
 
 module _ (b : List ℕ) {a : List ℕ} (at : Layout) (room : OrderRoom) {e : Extent} (extent : ExtentOf a room.listed at.sizes.nodes e) where
-  pub few-marked : OneOf (0 ∷ 1 ∷ []) (tag_of the_type e) → MarkedChecked b a at room true a
+  pub few-marked : ((first last : ℕ) → e ≡ Range first last → ⊥) → MarkedChecked b a at room true a
   unfolding passing_over
   few-marked h =
       record {

@@ -5,8 +5,6 @@ use native.Mathlib.Omega.{arith}
 use mathlib.Core.Path.{◌≡◌, refl, sym, ap, ◌∙◌, subst}
 use mathlib.Core.Logic.{◌≢◌}
 use mathlib.Core.List.{List, [], ◌∷◌}
-use types.Run.{OneOf, miss}
-use denote.Enum.Declared.{tag_of}
 use borrow.Author.Tests.{lt-ltb, le-ltb}
 use lib.ListN.{length, replicate}
 use lib.Seq.{sets, length-sets}
@@ -30,7 +28,6 @@ use Rattle.neighbours.specs.declared.Listing.{Listing}
 use Rattle.toposort.specs.declared.ordering.Ordered.{Ordered}
 use Rattle.toposort.specs.declared.ordering.Ordered.TheVariants.{Done, Refused}
 use Rattle.toposort.specs.Laid.{Ready, OrderLaid, Lies, Left, OrderLeft, ordered_said}
-use Rattle.toposort.specs.contracts.ordering.Ordered.{the_type}
 use Rattle.toposort.proofs.Refusing.{passed-kept, refused_kept, next, here, alone, after, before}
 
 -- what lies over an area, or as a refusal leaves it, lies so over the same area
@@ -159,12 +156,12 @@ ordered_said_injective r s e = sym (order-back r) ∙ ap meant_order e ∙ order
 
 -- what is not taken apart is a refusal
 
-pub is_refusal : (o : Ordered) → OneOf (1 ∷ []) (tag_of the_type o) → ruling (ordered_said o) ≢ passed
+pub is_refusal : (o : Ordered) → ((at : Layout) (links : Listing) → o ≡ Done at links → ⊥) → ruling (ordered_said o) ≢ passed
 unfolding ruling
-is_refusal (Done at links) h e = miss (1 ∷ []) 0 tt h
+is_refusal (Done at links) h e = h at links refl
 is_refusal (Refused x) h e = no_refusal (sym e)
 
 -- .. and leaves the area as it says
-pub refused_left : {b z kept : List ℕ} {u : Ruling} {m : List ℕ} (o : Ordered) → OneOf (1 ∷ []) (tag_of the_type o) → Left b z kept u o m → m ≡ kept
-refused_left (Done at links) h left = absurd (miss (1 ∷ []) 0 tt h)
+pub refused_left : {b z kept : List ℕ} {u : Ruling} {m : List ℕ} (o : Ordered) → ((at : Layout) (links : Listing) → o ≡ Done at links → ⊥) → Left b z kept u o m → m ≡ kept
+refused_left (Done at links) h left = absurd (h at links refl)
 refused_left (Refused x) h left = left.lies

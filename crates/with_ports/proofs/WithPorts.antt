@@ -4,8 +4,6 @@ use Prim.Native.Nat.{ℕ}
 use mathlib.Core.Path.{◌≡◌, refl, sym, ap, ◌∙◌}
 use mathlib.Core.Bool.{Bool, true, false, cond}
 use mathlib.Core.List.{List, [], ◌∷◌, ◌++◌}
-use types.Run.{OneOf, miss}
-use denote.Enum.Declared.{tag_of}
 use Rattle.paper.specs.Refusals.{Ruling, passed, refusal, Answer, answer, answered, refused, decide}
 use Rattle.refusals.specs.Said.{ruling}
 use Rattle.refusals.proofs.Rulings.{ruling-answer, no_refusal, first_decides}
@@ -13,28 +11,27 @@ use Rattle.answers.specs.Said.{line_said, topo_said}
 use Rattle.answers.specs.declared.LineAnswer.{LineAnswer}
 use Rattle.answers.specs.declared.LineAnswer.TheVariants as Line
 use Rattle.line_checker.proofs.Out.{said-after}
+use Rattle.refusals.specs.declared.Refusal.{Refusal}
 use Rattle.tables.specs.declared.Layout.{Layout}
 use Rattle.tables.specs.Answered.{Answered}
-use Rattle.answers.specs.contracts.LineAnswer.{the_type as line-type}
 use Rattle.answers.specs.declared.TopoAnswer.{TopoAnswer}
 use Rattle.answers.specs.declared.TopoAnswer.TheVariants as Topo
-use Rattle.answers.specs.contracts.TopoAnswer.{the_type as topo-type}
 use Rattle.tables.proofs.Within.{within_both}
 use Rattle.with_ports.specs.AfterPorts.{after_ports}
 
 -- ---- an answer that is no refusal
 
-pub line-passed : (r : LineAnswer) → OneOf (0 ∷ 1 ∷ []) (tag_of line-type r) → ruling (line_said r) ≡ passed
+pub line-passed : (r : LineAnswer) → ((x : Refusal) → r ≡ Line.Refused x → ⊥) → ruling (line_said r) ≡ passed
 unfolding ruling
 line-passed (Line.Yes c) h = refl
 line-passed (Line.No c) h = refl
-line-passed (Line.Refused x) h = absurd (miss (0 ∷ 1 ∷ []) 2 tt h)
+line-passed (Line.Refused x) h = absurd (h x refl)
 
-pub order-passed : (r : TopoAnswer) → OneOf (0 ∷ 1 ∷ []) (tag_of topo-type r) → ruling (topo_said r) ≡ passed
+pub order-passed : (r : TopoAnswer) → ((x : Refusal) → r ≡ Topo.Refused x → ⊥) → ruling (topo_said r) ≡ passed
 unfolding ruling
 order-passed Topo.Yes h = refl
 order-passed Topo.No h = refl
-order-passed (Topo.Refused x) h = absurd (miss (0 ∷ 1 ∷ []) 2 tt h)
+order-passed (Topo.Refused x) h = absurd (h x refl)
 
 -- ---- the check, then the ports
 

@@ -6,7 +6,7 @@ use Rattle.port_conflict.proofs.Said.{told_already}
 use Rattle.port_conflict.proofs.look_at_links.Goals as goal
 
 pub returns-in_default : goal.returns-in_default
-returns-in_default c = record { says = told_already c.args.known c.in-Clear.keys2 _; kept = within_none }
+returns-in_default c = record { says = told_already c.args.known c.in_default.not-Clear _; kept = within_none }
 
 pub first_ports_at-requires : goal.first_ports_at-requires
 first_ports_at-requires c = record { numbered = numbered c.requires.usable.read; n_in_bounds = omega (arith, c.requires.fits, c.requires.usable.placed.after-scratch, c.requires.usable.room) }

@@ -16,6 +16,6 @@ slice_bounds-result-end c = omega (arith, view-inside c.requires.usable c.requir
 pub returns : goal.returns
 returns c = let there =
     between (c.view_start-from.result + c.line_count-count.result - c.view_start-from.result) c.view_start-from.result (c.view_start-from.result + c.line_count-count.result) c.args.area.now refl
-    ∙ ap₂ (λ (f c : ℕ). slice f (f + c) c.args.area.now) c.view_start-from.ensures c.line_count-count.ensures
+    ∙ ap₂ (λ (f k : ℕ). slice f (f + k) c.args.area.now) c.view_start-from.ensures c.line_count-count.ensures
     in
     record { result_value = there; starts_at = (refl, omega (arith, c.view_start-from.ensures)) }

@@ -6,7 +6,7 @@ pub never-requires : goal.never-requires
 never-requires c = c.requires (ap checked_said c.in_default.is)
 
 pub returns-in_default : goal.returns-in_default
-returns-in_default c = absurd (never-requires c tt)
+returns-in_default c = absurd (c.requires (ap checked_said c.in_default.is))
 
 pub returns : goal.returns
 returns c = ap checked_said (sym c.in-Refused.is)

@@ -7,26 +7,20 @@ use Rattle.lookup.proofs.Following.{not_absent, on_line}
 use Rattle.intervals.proofs.Testing.{ends-before, ends_there}
 use Rattle.intervals.proofs.filling.fills_line.Goals as goal
 
-abbrev start : tie.After-first → tie.Start
-start s = s.before.before.before.before.before
-
 pub returns-in_default : goal.returns-in_default
 returns-in_default c = absurd (not_absent c.args.nodes.now c.args.positions.now c.args.low c.requires.positions_value (sym c.find_index.ensures ∙ ap index_said c.in_default.is))
 
 pub overflow_add-last : goal.overflow_add-last
 overflow_add-last c =
-    let found : lookup (positions_on (start c).args.nodes.now (start c).args.positions.now) (start c).args.low ≡ at c.in-At.first = sym c.find_index.ensures ∙ ap index_said c.in-At.is in
-    let args = (start c).args in
-    omega (arith, on_line (start c).requires.0 args.low c.in-At.first found, (start c).requires.1.1.1)
+    let found : lookup (positions_on c.args.nodes.now c.args.positions.now) c.args.low ≡ at c.in-At.first = sym c.find_index.ensures ∙ ap index_said c.in-At.is in
+    omega (arith, on_line c.requires.line c.args.low c.in-At.first found, c.requires.le_count.1)
 
 pub returns-then-last-nodes : goal.returns-then-last-nodes
 returns-then-last-nodes c =
-    let found : lookup (positions_on (start c).args.nodes.now (start c).args.positions.now) (start c).args.low ≡ at c.in-At.first = sym c.find_index.ensures ∙ ap index_said c.in-At.is in
-    let args = (start c).args in
-    ends-before args.nodes.now args.positions.now args.low args.high args.count found c.if-last-nodes.true
+    let found : lookup (positions_on c.args.nodes.now c.args.positions.now) c.args.low ≡ at c.in-At.first = sym c.find_index.ensures ∙ ap index_said c.in-At.is in
+    ends-before c.args.nodes.now c.args.positions.now c.args.low c.args.high c.args.count found c.if-last-nodes.true
 
 pub returns : goal.returns
 returns c =
-    let found : lookup (positions_on (start c).args.nodes.now (start c).args.positions.now) (start c).args.low ≡ at c.in-At.first = sym c.find_index.ensures ∙ ap index_said c.in-At.is in
-    let args = (start c).args in
-    ends_there args.nodes.now args.positions.now args.low args.high args.count found c.if-last-nodes.false c.position_at.ensures.value
+    let found : lookup (positions_on c.args.nodes.now c.args.positions.now) c.args.low ≡ at c.in-At.first = sym c.find_index.ensures ∙ ap index_said c.in-At.is in
+    ends_there c.args.nodes.now c.args.positions.now c.args.low c.args.high c.args.count found c.if-last-nodes.false c.position_at.ensures.value

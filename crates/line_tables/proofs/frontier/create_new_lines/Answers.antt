@@ -9,5 +9,5 @@ pub loop-made-preserved : goal.loop-made-preserved
 loop-made-preserved c = (search rules, search rules, create_again _ _ _ _ c.loop-made.invariant.2)
 
 pub returns : goal.returns
-returns c = let all : c.args.count ≡ c.before.loop.made = omega arith in
+returns c = let all : c.args.count ≡ c.loop-made.made = omega arith in
     rw all c.loop-made.invariant.2

@@ -28,5 +28,5 @@ pub shape_of-area : goal.shape_of-area
 shape_of-area c = long-pushed c.args.area.now c.args.n c.args.l c.args.p c.args.first c.args.list c.loop-pushed.pushed c.loop-pushed.invariant.1
 
 pub returns : goal.returns
-returns c = let all : c.args.outgoing ≡ c.before.loop.pushed = omega arith in
+returns c = let all : c.args.outgoing ≡ c.loop-pushed.pushed = omega arith in
     rw all c.loop-pushed.invariant.1

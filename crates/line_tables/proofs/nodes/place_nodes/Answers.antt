@@ -17,8 +17,8 @@ pub shape_of-area : goal.shape_of-area
 shape_of-area c = c.loop-t.invariant.2.long
 
 pub returns : goal.returns
-returns c = let all : c.loop-t.t ≡ start.n = omega arith in (
-  subst (λ (t : ℕ). c.loop-t.n-lines ≡ (frontier_at c.args.b.now t).count) all c.loop-t.invariant.1,
+returns c = let all : c.loop-t.t ≡ c.args.n = omega arith in (
+  subst (λ (t : ℕ). c.loop-t.n_lines ≡ (frontier_at c.args.b.now t).count) all c.loop-t.invariant.1,
   c.loop-t.invariant.2,
   subst (Turned c.args.b.now c.loop-t.area c.args.n c.args.l c.args.p) all c.loop-t.invariant.3,
 )

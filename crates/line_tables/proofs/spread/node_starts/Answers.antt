@@ -40,7 +40,7 @@ loop-v-preserved c = (
 )
 
 pub overflow_cast-area-2 : goal.overflow_cast-area-2
-overflow_cast-area-2 c = let all : c.args.n ≡ c.before.loop.v = omega (arith, c.loop-v.invariant.0, c.loop-v-test.false) in
+overflow_cast-area-2 c = let all : c.args.n ≡ c.loop-v.v = omega (arith, c.loop-v.invariant.0, c.loop-v-test.false) in
     omega (arith, c.loop-v.invariant.1, ap (widths_before c.args.area.now c.args.firsts c.args.starts c.args.outs) all, c.requires.small c.args.n (omega arith))
 
 pub overflow_add-area-2 : goal.overflow_add-area-2
@@ -60,5 +60,5 @@ shape_of-area c =
     search (rules, long)
 
 pub returns : goal.returns
-returns c = let all : c.args.n ≡ c.before.loop.v = omega (arith, c.loop-v.invariant.0, c.loop-v-test.false) in
+returns c = let all : c.args.n ≡ c.loop-v.v = omega (arith, c.loop-v.invariant.0, c.loop-v-test.false) in
     rw all (table_more c.args.area.now c.args.into (widths_before c.args.area.now c.args.firsts c.args.starts c.args.outs) c.loop-v.v c.loop-v.invariant.2 c.loop-v.invariant.1)

@@ -37,5 +37,5 @@ pub shape_of-area : goal.shape_of-area
 shape_of-area c = table-long c.args.area.now c.args.into (links_from c.args.area.now c.args.firsts c.args.starts) c.loop-v.v c.loop-v.invariant.1
 
 pub returns : goal.returns
-returns c = let all : c.args.n + 1 ≡ c.before.loop.v = omega (arith, c.loop-v.invariant.0, c.loop-v-test.false) in
+returns c = let all : c.args.n + 1 ≡ c.loop-v.v = omega (arith, c.loop-v.invariant.0, c.loop-v-test.false) in
     rw all c.loop-v.invariant.1

@@ -5,7 +5,7 @@ use Rattle.port_conflict.proofs.Said.{not_clear}
 use Rattle.port_conflict.proofs.marks.mark_lists.Goals as goal
 
 pub returns-in_default : goal.returns-in_default
-returns-in_default c = unknown_input c.requires.fits c.mark_ports-among_inputs.ensures _ (not_clear c.mark_ports-among_inputs.result c.in-Clear.keys2)
+returns-in_default c = unknown_input c.requires.fits c.mark_ports-among_inputs.ensures _ (not_clear c.mark_ports-among_inputs.result c.in_default.not-Clear)
 
 pub returns : goal.returns
 returns c = then_outputs c.requires.fits c.mark_ports-among_inputs.ensures _ (ap ports_said c.in-Clear.is) c.mark_ports.ensures

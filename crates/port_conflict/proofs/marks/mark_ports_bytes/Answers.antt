@@ -10,6 +10,7 @@ pub loop-i-init : goal.loop-i-init
 loop-i-init c = marking_starts c.args.area.now c.args.marks c.args.p c.requires c.fill.ensures (words_from c.args.ports.now)
 
 pub returns-then-not-mark_port : goal.returns-then-not-mark_port
+unfolding words_from
 returns-then-not-mark_port c =
     let entry : c.wide.result ≡ get_or (words_from c.args.ports.now) c.loop-i.i 0 = c.wide.ensures ∙ c.field_at.ensures
     ∙ sym (get_or-table (λ j. word c.args.ports.now (2 * j)) (length c.args.ports.now / 2) c.loop-i.i 0 c.loop-i-test.true) in
@@ -20,6 +21,7 @@ pub loop-i-smaller : goal.loop-i-smaller
 loop-i-smaller c = omega arith
 
 pub loop-i-preserved : goal.loop-i-preserved
+unfolding words_from
 loop-i-preserved c =
     let entry : c.wide.result ≡ get_or (words_from c.args.ports.now) c.loop-i.i 0 = c.wide.ensures ∙ c.field_at.ensures
     ∙ sym (get_or-table (λ j. word c.args.ports.now (2 * j)) (length c.args.ports.now / 2) c.loop-i.i 0 c.loop-i-test.true) in

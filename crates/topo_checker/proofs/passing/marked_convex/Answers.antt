@@ -6,7 +6,7 @@ pub marked_extent-places-requires : goal.marked_extent-places-requires
 marked_extent-places-requires c = omega (arith, c.requires.laid.placed)
 
 pub returns-in_default : goal.returns-in_default
-returns-in_default c = few-marked c.args.b.now c.args.at c.args.room c.marked_extent-places.ensures c.in-Range.keys2
+returns-in_default c = few-marked c.args.b.now c.args.at c.args.room c.marked_extent-places.ensures c.in_default.not-Range
 
 pub fed_back-requires : goal.fed_back-requires
 fed_back-requires c = record { laid = c.requires.laid; unpassed = unpassed c.args.b.now c.args.at c.args.room c.marked_extent-places.ensures c.in-Range.is c.requires.fresh }

@@ -6,7 +6,7 @@ use Rattle.toposort.proofs.Sizing.{unread, sized-left, passes}
 use Rattle.toposort.proofs.ordering.order_map.Goals as goal
 
 pub map_refusal-requires : goal.map_refusal-requires
-map_refusal-requires c = map_refused c.read_map-map.result c.in-Sized.keys2
+map_refusal-requires c = map_refused c.read_map-map.result c.in_default.not-Sized
 
 pub returns-in_default : goal.returns-in_default
 returns-in_default c = unread _ _ c.map_refusal.result (ruled_by_lem (map_said c.read_map-map.result) c.map_refusal.ensures _ _ c.read_map-map.ensures) refl

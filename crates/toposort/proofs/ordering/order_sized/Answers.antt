@@ -8,7 +8,7 @@ pub returns-then-area-words : goal.returns-then-area-words
 returns-then-area-words c = no_room c.requires c.lay_out-at.ensures _ c.if-area-words.true refl
 
 pub link_refusal-requires : goal.link_refusal-requires
-link_refusal-requires c = links_refused c.check_links-found.result c.in-Sound.keys2
+link_refusal-requires c = links_refused c.check_links-found.result c.in_default.not-Sound
 
 pub returns-in_default : goal.returns-in_default
 returns-in_default c = bad_link_lem c.requires c.lay_out-at.ensures _ (search rules) c.fill.ensures c.link_refusal.result

@@ -1,0 +1,24 @@
+use Rattle.std.proofs.Common.{ap, sym, ◌∙◌}
+use Rattle.refusals.proofs.Rulings.{ruled_by_lem}
+use Rattle.stepmap.specs.Said.{map_said}
+use Rattle.stepmap.proofs.Answers.{map_refused, read_well}
+use Rattle.tables.proofs.Placed.{few}
+use Rattle.toposort.proofs.Sizing.{passes}
+use Rattle.opening.proofs.Opening.{unread_said, laid, placed-said}
+use Rattle.opening.proofs.open_shared.Goals as goal
+
+pub map_refusal-requires : goal.map_refusal-requires
+map_refusal-requires c = map_refused c.read_map-read.result c.in_default.not-Sized
+
+pub returns-in_default : goal.returns-in_default
+returns-in_default c = unread_said _ _ c.map_refusal.result (ruled_by_lem (map_said c.read_map-read.result) c.map_refusal.ensures _ _ c.read_map-read.ensures)
+
+pub lay_out-at-requires : goal.lay_out-at-requires
+lay_out-at-requires c = few (read_well _ _ _ _ (ap map_said (sym c.in-Sized.is) ∙ c.read_map-read.ensures))
+
+pub open_placed_shared-requires : goal.open_placed_shared-requires
+open_placed_shared-requires c = laid (read_well _ _ _ _ (ap map_said (sym c.in-Sized.is) ∙ c.read_map-read.ensures)) c.lay_out-at.ensures
+
+pub returns : goal.returns
+returns c = let said = ap map_said (sym c.in-Sized.is) ∙ c.read_map-read.ensures in
+    placed-said _ _ (laid (read_well _ _ _ _ said) c.lay_out-at.ensures) (passes _ said) c.open_placed_shared.ensures

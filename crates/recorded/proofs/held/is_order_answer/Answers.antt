@@ -1,0 +1,9 @@
+use Rattle.std.proofs.Common.{ap, drop, ◌∙◌}
+use Rattle.lists.specs.Lists.{same}
+use Rattle.paper.specs.Exports.{Told}
+use Rattle.recorded.specs.Answers.{told_words, order_words}
+use Rattle.recorded.proofs.held.is_order_answer.Goals as goal
+
+pub returns : goal.returns
+unfolding told_words order_words
+returns c = c.is_told.ensures ∙ ap (λ (t : Told). same (drop c.args.at c.args.words.now) (told_words t)) c.tell_order-case.ensures
