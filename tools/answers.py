@@ -330,6 +330,8 @@ class Proof:
                 by_name[name] = (comment, chunk)
             elif re.match(r"abbrev " + re.escape(name or "") + r" : tie\.\w[\w-]* → tie\.\w+\n", chunk):
                 self.backs.append(name)
+            elif re.match(r"abbrev " + re.escape(name or "") + r" : tie\.\w[\w-]* → ", chunk):
+                helper_text.append((comment, name, chunk))
             elif name == "module" or re.search(r"\((\w+) : tie\.(?!Need)[A-Z]", chunk):
                 helper_text.append((comment, name, chunk))
             else:
@@ -416,7 +418,7 @@ class Proof:
         if sig[2]:
             self.unfolds[name] = sig[2].split()[1:]
         if not sectioned:
-            t = re.match(r"\(" + root + r" : tie\.[^()]+\)\s*→\s*(.*)", type_, re.S)
+            t = re.match(r"\(" + root + r" : tie\.[^()]+\)\s*(?:→\s*)?(.*)", type_, re.S) or re.match(r"tie\.[^→()]+→\s*(.*)", type_, re.S)
             if not t or not params:
                 self.note(f"helper {name} takes more")
                 return
@@ -623,8 +625,8 @@ class Proof:
 def main():
     global CLAUSES
     CLAUSES = clauses_of()
-    if os.path.exists("/tmp/table_final.txt"):
-        FIELDS.update(l.split() for l in open("/tmp/table_final.txt") if ":" not in l and len(l.split()) == 2)
+    if os.path.exists("/root/w/table_final.txt"):
+        FIELDS.update(l.split() for l in open("/root/w/table_final.txt") if ":" not in l and len(l.split()) == 2)
     for crate in sys.argv[1:]:
         proofs = sorted(glob.glob(f"crates/{crate}/proofs/**/Proof.antt", recursive=True))
         if not proofs:

@@ -1,6 +1,7 @@
 // Translated from src/algorithms/convex/line_convex_checker.rs of portgraph (88172a3c8e, Apache-2.0, see NOTICE), and changed:
 // `try_extend_intervals` works on a copy in a room of its own, where the source keeps a backup, and finds a line's record by its slot.
 #![tactic(auto)]
+
 pub mod grow;
 
 ghost use Rattle.std.specs.Prelude.{◌+◌, ◌*◌, ◌≤◌, ◌<◌, length};

@@ -3,7 +3,7 @@
 use Prim.Native.Nat.{ℕ, suc, ◌+◌, ◌-◌, ◌≤◌, ◌<◌}
 use native.Mathlib.Decide.{dec_lt}
 use native.Mathlib.Omega.{arith}
-use mathlib.Core.Path.{◌≡◌, refl, sym, ap, ◌∙◌}
+use mathlib.Core.Path.{◌≡◌, subst, refl, sym, ap, ◌∙◌}
 use mathlib.Core.Bool.{Bool, true, false}
 use mathlib.Core.List.{List, [], ◌∷◌}
 use lib.ListN.{length, get_or, set, length-set}
@@ -160,7 +160,9 @@ module _ {b a : List ℕ} {n l p : ℕ} {ends : List End} (links : L b ≡ l) (s
         tops : (r : ℕ) → r < p → (t : Bool) → eqb e.port r ≡ t
             → get_or (set (set a (stack_at n l p + slot) e.line) (tops_at n l + e.port) (slot + 1)) (tops_at n l + r) 0 ≡ below (out_keys b) r + height r (e ∷ ends)
         tops r h true t =
-            rw (← eqb-true e.port r t)
+            subst
+            (λ (x : ℕ). get_or (set (set a (stack_at n l p + slot) e.line) (tops_at n l + e.port) (slot + 1)) (tops_at n l + x) 0 ≡ below (out_keys b) x + height x (e ∷ ends))
+            (eqb-true e.port r t)
             (get_or-set_same (set a (stack_at n l p + slot) e.line) (tops_at n l + e.port) (slot + 1) 0 (omega (arith, room, length-set a (stack_at n l p + slot) e.line))
             ∙ omega (arith, slot_is, higher e ends))
         tops r h false t =
@@ -172,7 +174,12 @@ module _ {b a : List ℕ} {n l p : ℕ} {ends : List End} (links : L b ≡ l) (s
         lines : (r : ℕ) → r < p → (i : ℕ) → i < height r (e ∷ ends) → (t : Bool) → eqb e.port r ≡ t
             → get_or (set a (stack_at n l p + slot) e.line) (stack_at n l p + (below (out_keys b) r + i)) 0
             ≡ get_or (lines_at r (e ∷ ends)) (height r (e ∷ ends) - suc i) 0
-        lines r h i g true t = rw (← eqb-true e.port r t) (at_or_under (dec_lt i (height e.port ends)))
+        lines r h i g true t =
+            subst
+            (λ (x : ℕ). get_or (set a (stack_at n l p + slot) e.line) (stack_at n l p + (below (out_keys b) x + i)) 0
+            ≡ get_or (lines_at x (e ∷ ends)) (height x (e ∷ ends) - suc i) 0)
+            (eqb-true e.port r t)
+            (at_or_under (dec_lt i (height e.port ends)))
           where
             same-height : height r (e ∷ ends) ≡ suc (height e.port ends)
             same-height = ap (λ (x : ℕ). height x (e ∷ ends)) (sym (eqb-true e.port r t)) ∙ higher e ends

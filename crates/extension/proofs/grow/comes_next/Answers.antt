@@ -1,0 +1,19 @@
+use Rattle.std.proofs.Common.{arith, length, ◌<◌}
+use Rattle.extension.proofs.Next.{line-end, node-there, node-next}
+use Rattle.extension.proofs.grow.comes_next.Goals as goal
+
+pub returns-in_default : goal.returns-in_default
+returns-in_default c = line-end c.args.nodes.now c.args.positions.now c.args.pos c.next_after.ensures c.in_default.is c.args.next
+
+pub offset_bounds-positions-node : goal.offset_bounds-positions-node
+offset_bounds-positions-node c =
+    let known : c.in-Node.node < length c.args.positions.now = node-there c.args.nodes.now c.args.positions.now c.args.pos c.next_after.ensures c.in-Node.is c.requires.line in
+    omega (arith, known)
+
+pub bounds-positions-node : goal.bounds-positions-node
+bounds-positions-node c =
+    let known : c.in-Node.node < length c.args.positions.now = node-there c.args.nodes.now c.args.positions.now c.args.pos c.next_after.ensures c.in-Node.is c.requires.line in
+    known
+
+pub returns : goal.returns
+returns c = node-next c.args.nodes.now c.args.positions.now c.args.pos c.next_after.ensures c.in-Node.is c.wide.ensures c.args.next
