@@ -15,13 +15,6 @@ returns-then-not-comes_next c =
     let highest-read : c.word_at-highest.result ≡ get_or c.args.room.now (3 * c.args.i + 2) 0 = c.word_at-highest.ensures in
     below_not along c.args.room.now c.args.i c.args.pos line_read lowest-read highest-read c.requires.growing c.if-pos-lowest.true c.comes_next.ensures (ap not c.if-not-comes_next.true)
 
-pub put_record-requires : goal.put_record-requires
-put_record-requires c =
-    let line_read : c.wide-line.result ≡ get_or c.args.room.now (3 * c.args.i) 0 = c.wide-line.ensures in
-    let highest-read : c.word_at-highest.result ≡ get_or c.args.room.now (3 * c.args.i + 2) 0 = c.word_at-highest.ensures in
-    let word : (j : ℕ) → get_or c.args.room.now j 0 < 65536 = λ j. (omega (arith, c.type_inv.room j)) in
-    record { i_in_bounds = c.requires.growing.whole; line_bound = (omega (arith, line_read, word (3 * c.args.i)), c.requires.growing.word, omega (arith, highest-read, word (3 * c.args.i + 2))) }
-
 pub returns-then-pos-lowest : goal.returns-then-pos-lowest
 returns-then-pos-lowest c =
     let along : List ℕ = positions_on c.args.nodes.now c.args.positions.now in
@@ -46,13 +39,6 @@ returns-then-not-comes_next-2 c =
     let lowest-read : c.word_at-lowest.result ≡ get_or c.args.room.now (3 * c.args.i + 1) 0 = c.word_at-lowest.ensures in
     let highest-read : c.word_at-highest.result ≡ get_or c.args.room.now (3 * c.args.i + 2) 0 = c.word_at-highest.ensures in
     above_not along c.args.room.now c.args.i c.args.pos line_read lowest-read highest-read c.if-pos-lowest.false c.if-highest-pos.true c.comes_next-then-highest-pos.ensures (ap not c.if-not-comes_next-2.true)
-
-pub put_record-requires-then-highest-pos : goal.put_record-requires-then-highest-pos
-put_record-requires-then-highest-pos c =
-    let line_read : c.wide-line.result ≡ get_or c.args.room.now (3 * c.args.i) 0 = c.wide-line.ensures in
-    let lowest-read : c.word_at-lowest.result ≡ get_or c.args.room.now (3 * c.args.i + 1) 0 = c.word_at-lowest.ensures in
-    let word : (j : ℕ) → get_or c.args.room.now j 0 < 65536 = λ j. (omega (arith, c.type_inv.room j)) in
-    record { i_in_bounds = c.requires.growing.whole; line_bound = (omega (arith, line_read, word (3 * c.args.i)), omega (arith, lowest-read, word (3 * c.args.i + 1)), c.requires.growing.word) }
 
 pub returns-then-highest-pos : goal.returns-then-highest-pos
 returns-then-highest-pos c =

@@ -19,6 +19,6 @@ section-part-requires c = let well = read_well _ _ _ _ (ap map_said (sym c.in-Si
     (sized well c.lay_out-at.ensures, laid well c.lay_out-at.ensures, omega (arith, c.wide.ensures, c.type_inv.area 0))
 
 pub returns : goal.returns
-returns c = let well = read_well _ _ _ _ (ap map_said (sym c.in-Sized.is) ∙ c.read_map-found.ensures) in
+returns c so = let well = read_well _ _ _ _ (ap map_said (sym c.in-Sized.is) ∙ c.read_map-found.ensures) in
     let used = rw c.wide.ensures at c.section-part.ensures.1 in
     is-section well c.lay_out-at.ensures c.args.kind c.args.words.now c.args.area.now c.section-part.result used (c.is_part.ensures so)
