@@ -125,6 +125,7 @@ class Proof:
         self.keys = {p[0].replace("At-match-", ""): p[2][1] for p in data["places"] if p[0].startswith("At-match-keys")}
         self.loops = [(l[0], l[1], ch) for l, ch in zip(data["loops"], data["changed"])]
         self.helpers = {}
+        self.typed_now = None
         self.backs = []
         self.unfolds = {}
         self.bad = []
@@ -161,6 +162,8 @@ class Proof:
                 return "." + ".".join([arm, field] + rest[n:])
         new = self.steps.get(canon(head)) or self.steps.get(canon(head).lower()) or self.steps.get(canon(re.sub("_lem$", "", head)))
         rest = [FIELDS.get(r, r) for r in rest]
+        if canon(head) in self.known and rest[:1] == ["given"] and self.typed_now is not None and canon(head) not in self.typed_now:
+            return "." + ".".join([self.steps[canon(head)]] + rest)
         if canon(head) in self.known and rest[:1] == ["given"]:
             return "." + ".".join(["type_inv", self.known[canon(head)]] + rest[1:])
         if new is None:
@@ -514,7 +517,10 @@ class Proof:
             )
             inv_text += (comment + "\n" if comment else "") + f"abbrev pub {kind}-{new} : goal.{kind}-{new}\n{m[3]}{kind}-{new} l ={body if body.startswith((' ', chr(10))) else ' ' + body}\n\n"
         own_ens = clause_names(self.function, "ensures")
+        order = {p[0]: i for i, p in enumerate(self.data["places"])}
         for need, (comment, unfolding, body, root) in answers.items():
+            at = [self.data["asked_at"][k][0] for k, (_, n) in enumerate(self.data["needs"]) if n == need and k < len(self.data["asked_at"])]
+            self.typed_now = {canon(s) for _, s in self.data["typed"][order[at[0]]]} if at and at[0] in order else None
             body = self.term(body, (root,) if root else ())
             if re.fullmatch(r"\s*search rules\s*", body):
                 continue
