@@ -1,5 +1,6 @@
 // The path of a list whose words cross as bytes, however long it is, into a buffer of bytes.
 #![tactic(auto)]
+
 ghost use Rattle.std.specs.Prelude.{◌≡◌, [], ◌∷◌, ◌++◌, length};
 ghost use Rattle.paper.specs.Calls.{line_rules};
 ghost use Rattle.paper.specs.Path.{back_path, shown_of, steps_of};

@@ -1,6 +1,7 @@
 // The questions on records whose words cross as bytes, however many they are. Of K + 1 records one has a line that another has, or none of the
 // K lines, so that no more are read.
 #![tactic(auto)]
+
 ghost use Rattle.std.specs.Prelude.{◌≡◌, [], ◌∷◌, ◌*◌, ◌/◌, ◌≤◌, min, length, take};
 ghost use Rattle.std.proofs.lemmas.List.Edits.{sets};
 ghost use Rattle.paper.specs.Calls.{needed, said, words_of};

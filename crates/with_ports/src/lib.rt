@@ -1,6 +1,7 @@
 // Translated from `is_convex` of src/algorithms/convex.rs of portgraph (88172a3c8e, Apache-2.0, see NOTICE), as convex/line_convex_checker.rs
 // and convex/topo_convex_checker.rs have it, and changed: the check runs before the ports are looked at, since its refusals come first.
 #![tactic(auto)]
+
 ghost use Rattle.std.specs.Prelude.{◌≡◌, cond, ◌++◌};
 ghost use Rattle.paper.specs.Calls.{line_rules, order_rules, port_rules};
 ghost use Rattle.paper.specs.Intervals.{Reply};
