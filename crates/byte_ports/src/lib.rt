@@ -1,5 +1,6 @@
 // The checks with ports on lists whose words cross as bytes, however long they are (see `with_ports`).
 #![tactic(auto)]
+
 ghost use Rattle.std.specs.Prelude.{cond, ◌++◌};
 ghost use Rattle.paper.specs.Calls.{line_rules, order_rules, port_rules};
 ghost use Rattle.paper.specs.Intervals.{Reply};

@@ -1,0 +1,18 @@
+use Rattle.opening.proofs.Using.{is_refusal, usable, has-scratch}
+use Rattle.calling.proofs.LineCalls.{intervals_refused, intervals_answered}
+use Rattle.convex.proofs.line_convex_checker.get_intervals_from_nodes.Goals as goal
+
+pub refusal-requires : goal.refusal-requires
+refusal-requires c = is_refusal c.open-opened.result c.in_default.not-Ready
+
+pub returns-in_default : goal.returns-in_default
+returns-in_default c = intervals_refused c.open-opened.ensures (is_refusal c.open-opened.result c.in_default.not-Ready) c.refusal.result c.refusal.ensures _ _
+
+pub intervals_of_list-written-requires : goal.intervals_of_list-written-requires
+intervals_of_list-written-requires c = usable c.open-opened.ensures c.in-Ready.is
+
+pub clear_scratch-requires : goal.clear_scratch-requires
+clear_scratch-requires c = has-scratch c.open-opened.ensures c.in-Ready.is c.intervals_of_list-written.ensures.kept
+
+pub returns : goal.returns
+returns c = intervals_answered c.open-opened.ensures c.in-Ready.is c.clear_scratch.ensures _ c.intervals_of_list-written.ensures

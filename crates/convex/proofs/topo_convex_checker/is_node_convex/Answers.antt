@@ -1,0 +1,27 @@
+use Rattle.opening.proofs.Using.{is_refusal, usable, has-scratch}
+use Rattle.convex.proofs.Promises.{order-kept}
+use Rattle.calling.proofs.TopoCalls.{order_refused, order_answered}
+use Rattle.convex.proofs.topo_convex_checker.is_node_convex.Goals as goal
+
+pub refusal-requires : goal.refusal-requires
+refusal-requires c = is_refusal c.open-opened.result c.in_default.not-Ready
+
+pub returns-in_default : goal.returns-in_default
+returns-in_default c = let same =
+    order_refused c.open-opened.ensures (is_refusal c.open-opened.result c.in_default.not-Ready) c.refusal.result c.refusal.ensures
+    c.args.list.now
+    in
+    record { area_after = same; order_promise = order-kept same }
+
+pub check_order-ordered-requires : goal.check_order-ordered-requires
+check_order-ordered-requires c = usable c.open-opened.ensures c.in-Ready.is
+
+pub clear_scratch-requires : goal.clear_scratch-requires
+clear_scratch-requires c = has-scratch c.open-opened.ensures c.in-Ready.is c.check_order-ordered.ensures.kept
+
+pub returns : goal.returns
+returns c = let same =
+    order_answered c.open-opened.ensures c.in-Ready.is c.clear_scratch.ensures c.args.list.now
+    c.check_order-ordered.ensures
+    in
+    record { area_after = same; order_promise = order-kept same }
