@@ -1,5 +1,6 @@
 // The questions about lists of nodes and about ports, asked again: whether each answer is the recorded one.
 #![tactic(auto)]
+
 ghost use Rattle.std.specs.Prelude.{true, ◌≡◌, ◌≤◌, length, drop};
 ghost use Rattle.lists.specs.Lists.{same};
 ghost use Rattle.paper.specs.Calls.{area_after, get_intervals_from_nodes, is_convex, topo_is_convex};

@@ -1,5 +1,6 @@
 // Preparing and the questions about records, asked again: whether each answer is the recorded one.
 #![tactic(auto)]
+
 ghost use Rattle.std.specs.Prelude.{true, ◌≡◌, ◌≤◌, length, drop};
 ghost use Rattle.lists.specs.Lists.{same};
 ghost use Rattle.paper.specs.Calls.{area_after, nodes_in_intervals, prepare as prepared, try_extend_intervals};
