@@ -1,0 +1,23 @@
+use Rattle.std.proofs.Common.{arith}
+use Rattle.paper.specs.Calls.{is_convex}
+use Rattle.paper.specs.Words.{words_from}
+use Rattle.crossing.proofs.Crossed.{line-ports_cross}
+use Rattle.varddohas.proofs.Exported.{held-read, room_back, exported}
+use Rattle.varddohas.proofs.Promises.{line-ports-kept}
+use Rattle.varddohas.proofs.line_exports.varddohas_line_is_convex.Goals as goal
+
+pub slice_bounds-put_words-end : goal.slice_bounds-put_words-end
+slice_bounds-put_words-end c = let held = held-read _ _ c.area_room-room.ensures c.read_area-words.ensures in
+    room_back held
+    (λ a. is_convex c.args.map.now a (words_from c.args.list.now) (words_from c.args.inputs.now) (words_from c.args.outputs.now))
+    (line-ports_cross _ _ _ _ _) c.is_convex-answer.ensures
+
+pub returns : goal.returns
+returns c = let held = held-read _ _ c.area_room-room.ensures c.read_area-words.ensures in
+    let same =
+    exported held
+    (λ a. is_convex c.args.map.now a (words_from c.args.list.now) (words_from c.args.inputs.now) (words_from c.args.outputs.now))
+    (line-ports_cross _ _ _ _ _) c.is_convex-answer.ensures
+    (λ i. omega (arith, c.slice_known-1.given i)) c.put_words.ensures _ _ _ _ c.tell_line.ensures
+    in
+    record { area_after = same; line_ports_promise = line-ports-kept _ _ _ _ same }

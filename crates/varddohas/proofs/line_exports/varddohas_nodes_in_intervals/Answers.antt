@@ -1,0 +1,19 @@
+use Rattle.std.proofs.Common.{arith}
+use Rattle.paper.specs.Calls.{nodes_in_intervals}
+use Rattle.paper.specs.Words.{words_from}
+use Rattle.crossing.proofs.Crossed.{nodes_cross}
+use Rattle.varddohas.proofs.Exported.{held-read, room-back_with, exported_with}
+use Rattle.varddohas.proofs.line_exports.varddohas_nodes_in_intervals.Goals as goal
+
+pub slice_bounds-put_words-end : goal.slice_bounds-put_words-end
+slice_bounds-put_words-end c = let held = held-read _ _ c.area_room-room.ensures c.read_area-words.ensures in
+    room-back_with held
+    (λ a. nodes_in_intervals c.args.map.now a (words_from c.args.records.now) c.args.many (words_from c.args.buffer.now))
+    (nodes_cross _ _ _ _ _) c.args.buffer.now c.nodes_in_intervals-answer.ensures
+
+pub returns : goal.returns
+returns c = let held = held-read _ _ c.area_room-room.ensures c.read_area-words.ensures in
+    exported_with held
+    (λ a. nodes_in_intervals c.args.map.now a (words_from c.args.records.now) c.args.many (words_from c.args.buffer.now))
+    (nodes_cross _ _ _ _ _) c.args.buffer.now c.nodes_in_intervals-answer.ensures
+    (λ i. omega (arith, c.slice_known-1.given i)) c.put_words.ensures _ _ _ _ c.tell_nodes.ensures
