@@ -1,5 +1,6 @@
 // How many lines of each kind there are, and how many differ.
 #![tactic(auto)]
+
 ghost use Rattle.std.specs.Prelude.{◌≡◌, length};
 
 use libc::STDOUT_FILENO;
