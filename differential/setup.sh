@@ -54,12 +54,6 @@ get_compiler() {
   runner=(qemu-x86_64)
 }
 
-# The library, made anew if it is not there or if anything it is made of is younger.
-make_library() {
-  local root library
-  root=$(cd "$here/.." && pwd)
-  library=$root/target/staticlib/libvarddohas.a
-  if [ ! -f "$library" ] || [ -n "$(find "$root/crates" "$root/crates.txt" -newer "$library" -print -quit)" ]; then
-    (cd "$root" && rt staticlib varddohas) >&2
-  fi
-}
+# The library: `make_library` makes it anew if it is not there or if anything it is made of is younger.
+# shellcheck source=../tools/built.sh
+. "$here/../tools/built.sh"
