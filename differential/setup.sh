@@ -39,11 +39,16 @@ get_crates() {
 # A compiler for x86-64, for which the library is made: `cargo_words` are cargo with its words, `runner` is what runs a program, and programs
 # are written to `programs`. On another machine these are Debian's own compiler, with the other machine's standard library, and an emulator.
 get_compiler() {
+  local minor
   programs=$here/../target/differential/release
   cargo_words=(cargo)
   runner=()
   if [ "$(uname -m)" = x86_64 ]; then
-    command -v cargo >/dev/null || get_packages rustc-web cargo-web
+    # the source needs Rust 1.75, and the package cargo of Debian 12 comes with 1.63
+    minor=$(rustc --version 2>/dev/null | sed -nE 's/^rustc 1\.([0-9]+)\..*/\1/p')
+    if ! command -v cargo >/dev/null || [ "${minor:-0}" -lt 75 ]; then
+      get_packages rustc-web cargo-web
+    fi
     return
   fi
   dpkg --add-architecture amd64 || { reason='packages for amd64 cannot be had'; return 1; }
