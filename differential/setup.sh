@@ -39,11 +39,16 @@ get_crates() {
 # A compiler for x86-64, for which the library is made: `cargo_words` are cargo with its words, `runner` is what runs a program, and programs
 # are written to `programs`. On another machine these are Debian's own compiler, with the other machine's standard library, and an emulator.
 get_compiler() {
+  local minor
   programs=$here/../target/differential/release
   cargo_words=(cargo)
   runner=()
   if [ "$(uname -m)" = x86_64 ]; then
-    command -v cargo >/dev/null || get_packages rustc-web cargo-web
+    # the source needs Rust 1.75, and the package cargo of Debian 12 comes with 1.63
+    minor=$(rustc --version 2>/dev/null | sed -nE 's/^rustc 1\.([0-9]+)\..*/\1/p')
+    if ! command -v cargo >/dev/null || [ "${minor:-0}" -lt 75 ]; then
+      get_packages rustc-web cargo-web
+    fi
     return
   fi
   dpkg --add-architecture amd64 || { reason='packages for amd64 cannot be had'; return 1; }
@@ -54,12 +59,6 @@ get_compiler() {
   runner=(qemu-x86_64)
 }
 
-# The library, made anew if it is not there or if anything it is made of is younger.
-make_library() {
-  local root library
-  root=$(cd "$here/.." && pwd)
-  library=$root/target/staticlib/libvarddohas.a
-  if [ ! -f "$library" ] || [ -n "$(find "$root/crates" "$root/crates.txt" -newer "$library" -print -quit)" ]; then
-    (cd "$root" && rt staticlib varddohas) >&2
-  fi
-}
+# The library: `make_library` makes it anew if it is not there or if anything it is made of is younger.
+# shellcheck source=../tools/built.sh
+. "$here/../tools/built.sh"

@@ -5,7 +5,7 @@ use std::error::Error;
 use std::path::PathBuf;
 
 /// Where the library stands unless `VARDDOHAS_LIB` says otherwise, seen from the repository's root.
-const DEFAULT_FOLDER: &str = "target/staticlib";
+const DEFAULT_FOLDER: &str = "crates/varddohas/out";
 
 fn main() -> Result<(), Box<dyn Error>> {
     println!("cargo:rerun-if-env-changed=VARDDOHAS_LIB");
@@ -15,7 +15,7 @@ fn main() -> Result<(), Box<dyn Error>> {
     let library = folder.join("libvarddohas.a");
     if !library.is_file() {
         return Err(
-            format!("the library is not there: {} (make it by `rt staticlib varddohas`)", library.display()).into()
+            format!("the library is not there: {} (make it by `rt lib` in crates/varddohas)", library.display()).into()
         );
     }
     println!("cargo:rerun-if-changed={}", library.display());

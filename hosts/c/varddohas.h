@@ -99,7 +99,7 @@ uint64_t varddohas_view_lines_at_port(const uint8_t *map, size_t map_bytes, cons
  * backwards, the one with the smaller step at the first difference. As 16-bit words into the buffer. count: the steps written, both ends included. NO: no path,
  * exactly where the line check says yes; that needs no room. No step stands on a path twice, so a word for each node of the map is room enough. Refusals
  * 1 to 5, 7, 8, 9, 10, 11. */
-#define VARDDOHAS_STACK_SHOW_PATH 155648
+#define VARDDOHAS_STACK_SHOW_PATH 135168
 uint64_t varddohas_show_path(const uint8_t *map, size_t map_bytes, uint8_t *area, size_t area_bytes,
                              const uint8_t *list, size_t list_bytes, uint8_t *buffer, size_t buffer_bytes,
                              uint64_t *count, uint64_t *number, uint64_t *place);

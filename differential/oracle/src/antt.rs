@@ -18,11 +18,11 @@ pub fn definition(number: usize, recording: &Recording) -> Vec<String> {
         ("lines", vec![recording.lines.to_string()]),
         ("order", vec![list(&recording.order)]),
         ("positions", vec![list(&recording.positions)]),
-        ("linesOfNodes", long_list(recording.lines_of_nodes.iter().map(|row| argument(row)))),
-        ("nodesOfLines", long_list(recording.nodes_of_lines.iter().map(|row| argument(row)))),
+        ("lines_of_nodes", long_list(recording.lines_of_nodes.iter().map(|row| argument(row)))),
+        ("nodes_of_lines", long_list(recording.nodes_of_lines.iter().map(|row| argument(row)))),
         ("asked", long_list(recording.asked.iter().map(question))),
     ];
-    let mut lines = vec![format!("map-{number} : Recording"), format!("map-{number} = record")];
+    let mut lines = vec![format!("map_{number} : Recording"), format!("map_{number} = record")];
     for (place, (name, pieces)) in fields.iter().enumerate() {
         let sign = if place == 0 { '{' } else { ';' };
         lines.extend(filled(&format!("  {sign} {name} ="), pieces));
@@ -32,18 +32,18 @@ pub fn definition(number: usize, recording: &Recording) -> Vec<String> {
 }
 
 /// What the file uses, below its two lines of head.
-pub const USES: &str = "use mathlib.Core.List.{List, [], _∷_}
+pub const USES: &str = "use mathlib.Core.List.{List, [], ◌∷◌}
 use lib.Dec.{T}
-use Rattle·lists.specs.Lists.{all}
-use Rattle·paper·specs.specs.Intervals.{Yes, No}
-use Rattle·paper·proofs.proofs.Everything.{everything}
-use Rattle·paper·proofs.proofs.Recording.{
-  Recording, node, link, line, order, intervals, byRecords, extend, nodesIn, port, linePorts, orderPorts, given, none, holds,
+use Rattle.lists.specs.Lists.{all}
+use Rattle.paper.specs.Intervals.{Yes, No}
+use Rattle.paper.proofs.Everything.{everything}
+use Rattle.paper.proofs.Recording.{
+  Recording, node, link, line, order, intervals, by_records, extend, nodes_in, port, line_ports, order_ports, given, none, holds,
 }";
 
 /// The list of all recordings, and the theorem that the definitions agree with each.
 pub fn list_of_all(count: usize) -> Vec<String> {
-    let names: Vec<String> = (0..count).map(|number| format!("map-{number}")).collect();
+    let names: Vec<String> = (0..count).map(|number| format!("map_{number}")).collect();
     let mut lines = vec!["recorded : List Recording".to_string()];
     lines.extend(filled("recorded =", &long_list(names.iter().cloned())));
     lines.push(String::new());
@@ -60,22 +60,22 @@ fn question(asked: &Asked) -> String {
         Asked::Order { list, yes } => format!("order {} {}", argument(list), answer(*yes)),
         Asked::Intervals { list, given } => format!("intervals {} {}", argument(list), records_given(given)),
         Asked::Records { records, said } => {
-            format!("byRecords {} {} {}", argument(records), answer(said.yes), said.count)
+            format!("by_records {} {} {}", argument(records), answer(said.yes), said.count)
         }
         Asked::Extend { records, node, given } => {
             format!("extend {} {node} {}", argument(records), records_given(given))
         }
-        Asked::NodesIn { records, nodes } => format!("nodesIn {} {}", argument(records), argument(nodes)),
+        Asked::NodesIn { records, nodes } => format!("nodes_in {} {}", argument(records), argument(nodes)),
         Asked::Port { port, said } => {
             format!("port {port} {} {} {}", said.first, said.lines.len(), argument(&said.lines))
         }
         Asked::LinePorts { list, ports, said } => {
             let [list, inputs, outputs] = [list, &ports.inputs, &ports.outputs].map(|part| argument(part));
-            format!("linePorts {list} {inputs} {outputs} {} {}", answer(said.yes), said.count)
+            format!("line_ports {list} {inputs} {outputs} {} {}", answer(said.yes), said.count)
         }
         Asked::OrderPorts { list, ports, yes } => {
             let [list, inputs, outputs] = [list, &ports.inputs, &ports.outputs].map(|part| argument(part));
-            format!("orderPorts {list} {inputs} {outputs} {}", answer(*yes))
+            format!("order_ports {list} {inputs} {outputs} {}", answer(*yes))
         }
     }
 }

@@ -47,4 +47,4 @@ pub const LINES_AT_PORT: usize = 135_168;
 pub const VIEW_LINES_AT_PORT: usize = 135_168;
 
 /// [`path::show_path`](crate::path::show_path)
-pub const SHOW_PATH: usize = 155_648;
+pub const SHOW_PATH: usize = 135_168;
