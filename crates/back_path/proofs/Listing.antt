@@ -43,7 +43,6 @@ use Rattle.distances.proofs.Passing.{standing-kept}
 use Rattle.back_path.specs.Ways.{Sourced, way_told, HasWay}
 use Rattle.back_path.specs.Searched.{Searched}
 use Rattle.back_path.specs.declared.showing.Room.{Room}
-use Rattle.back_path.specs.declared.writing.Back.{Back}
 use Rattle.back_path.proofs.Told.{fed_way, way_told_lem}
 use Rattle.back_path.proofs.Answers.{path-none, path-some, none_into, long_into, fit_into}
 

@@ -1,6 +1,6 @@
 -- The questions on records whose first 2,561 were read from bytes: what is said of those is said of all.
 -- Rests on Enough, Reading and accepted_theory's Alike.
-use Prim.Native.Nat.{ℕ, ◌/◌, ◌≤◌, ◌<◌}
+use Prim.Native.Nat.{ℕ, ◌/◌, ◌<◌}
 use native.Mathlib.Omega.{arith}
 use mathlib.Core.Path.{◌≡◌, refl, sym, ap, ◌∙◌, subst}
 use mathlib.Core.Logic.{◌≢◌}

@@ -31,7 +31,7 @@ use Rattle.paper.specs.Refusals.{
   rule6,
   rule7,
 }
-use Rattle.paper.specs.Calls.{untouched, unprepared, opening, area_after, call, prepare}
+use Rattle.paper.specs.Calls.{untouched, unprepared, opening, area_after, prepare}
 use Rattle.paper.proofs.Area.{W-most}
 use Rattle.lines_theory.proofs.Prepared.{written-long}
 use Rattle.lines_theory.proofs.Written.{section-room}

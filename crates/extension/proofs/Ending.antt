@@ -15,7 +15,7 @@ use Rattle.lists.proofs.Count.{one-small, one-is}
 use Rattle.lists.proofs.Places.{times-place, place-new}
 use Rattle.lists.proofs.Upto.{length-table, table_same}
 use Rattle.paper.specs.Area.{K, position, lines_of, nodes_of}
-use Rattle.paper.specs.Intervals.{Interval, Records, records, apart}
+use Rattle.paper.specs.Intervals.{Interval, Records, records}
 use Rattle.paper.specs.Records.{record_at, records_in, extend, extend_lines}
 use Rattle.paper.specs.Refusals.{on_line}
 use Rattle.paper.specs.Calls.{wrote, said, words_of}

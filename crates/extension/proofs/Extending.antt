@@ -13,7 +13,7 @@ use lib.ListN.{length, get_or, take, drop}
 use Rattle.lists.specs.Lists.{upto}
 use Rattle.lists.proofs.Upto.{table-suc, table_same}
 use Rattle.paper.specs.Area.{K}
-use Rattle.paper.specs.Intervals.{Interval, records, apart}
+use Rattle.paper.specs.Intervals.{Interval, records}
 use Rattle.paper.specs.Records.{record_at, records_in, along}
 use Rattle.paper.specs.Refusals.{on_line}
 use Rattle.tables.specs.declared.Layout.{Layout}

@@ -1,6 +1,6 @@
 -- The records that stand for a list's small map: each is a touched line's, can be tested, and its test is `fills`.
 -- Rests on accepted_theory's Collected and Intervals, and on on_line's Along.
-use Prim.Native.Nat.{ℕ, zero, suc, ◌+◌, ◌*◌, ◌≤◌, ◌<◌}
+use Prim.Native.Nat.{ℕ, zero, suc, ◌*◌, ◌≤◌, ◌<◌}
 use native.Mathlib.Omega.{arith}
 use mathlib.Core.Path.{◌≡◌, refl, sym, ap, ap₂, ◌∙◌, subst}
 use mathlib.Core.Bool.{true}

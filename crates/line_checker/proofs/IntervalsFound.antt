@@ -6,16 +6,15 @@ use mathlib.Core.Path.{◌≡◌, refl, sym, ap, ◌∙◌, subst}
 use mathlib.Core.Logic.{◌≢◌}
 use mathlib.Core.List.{List, [], ◌∷◌, flat_map}
 use lib.ListN.{length, take}
-use Rattle.paper.specs.Intervals.{Records, records, intervals, touched}
+use Rattle.paper.specs.Intervals.{intervals, touched}
 use Rattle.paper.specs.Records.{words_of_records}
-use Rattle.paper.specs.Refusals.{Ruling, passed, Answer, answer, answered, decide, refuse, earliest, rule9, rule10, rule11, whole_records}
+use Rattle.paper.specs.Refusals.{Ruling, Answer, answer, answered, decide, refuse, earliest, rule9, rule10, rule11, whole_records}
 use Rattle.paper.specs.Calls.{Written, wrote, said, words_of, needed, line_rules}
 use Rattle.answers.specs.Said.{intervals_said}
 use Rattle.answers.specs.declared.IntervalsAnswer.{IntervalsAnswer}
 use Rattle.answers.specs.declared.IntervalsAnswer.TheVariants as Asked
 use Rattle.refusals.specs.Said.{ruled, refused_by, ruling}
 use Rattle.refusals.specs.declared.Refusal.{Refusal}
-use Rattle.take_in.specs.Listed.{list_in}
 use Rattle.take_in.specs.Said.{TakenIn, taken_said}
 use Rattle.take_in.specs.declared.Taken.{Taken}
 use Rattle.take_in.specs.declared.Taken.TheVariants.{Nodes}

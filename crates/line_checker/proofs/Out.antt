@@ -6,7 +6,7 @@ use mathlib.Core.Path.{◌≡◌, refl, sym, ap, ◌∙◌, subst}
 use mathlib.Core.List.{List, [], ◌∷◌, ◌++◌}
 use lib.ListN.{length, take, length-take}
 use lib.Seq.{sets}
-use Rattle.paper.specs.Calls.{Written, wrote, found_apart, said, words_of, needed}
+use Rattle.paper.specs.Calls.{Written, wrote, said, words_of, needed}
 use Rattle.paper.specs.Intervals.{Records, records, apart}
 use Rattle.paper.specs.Refusals.{Ruling, passed, refusal, Answer, answer, answered, refused, decide, on_refusal, rule11, whole_records}
 use Rattle.paper.specs.Words.{words_from, put_words}

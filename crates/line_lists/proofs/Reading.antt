@@ -6,7 +6,7 @@ use mathlib.Core.Path.{◌≡◌, refl, sym, ap, ap₂, ◌∙◌, subst}
 use mathlib.Core.Bool.{Bool, true, false, cond}
 use mathlib.Core.List.{List, [], ◌∷◌, ◌++◌, map, flat_map, flatten, Memᴰ}
 use lib.ListN.{length, get_or, take, drop, replicate}
-use Rattle.lists.specs.Lists.{upto, one, count, keep, member, times}
+use Rattle.lists.specs.Lists.{upto, one, keep, member, times}
 use Rattle.lists.specs.Bounds.{Below}
 use Rattle.lists.specs.Weight.{total}
 use Rattle.lists.proofs.Sections.{part, get_d_part}

@@ -1,6 +1,6 @@
 -- The tables are whole: what stands after all nodes are placed, the nodes of the lines listed, the scratch cleared and K written.
 -- Rests on Rows, line_lists and lines_theory.Written.
-use Prim.Native.Nat.{ℕ, ◌+◌, ◌-◌, ◌*◌, ◌≤◌, ◌<◌}
+use Prim.Native.Nat.{ℕ, ◌+◌, ◌*◌, ◌≤◌, ◌<◌}
 use native.Mathlib.Decide.{dec_lt}
 use native.Mathlib.Omega.{arith}
 use mathlib.Core.Path.{◌≡◌, refl, sym, ap, ap₂, ◌∙◌, subst}

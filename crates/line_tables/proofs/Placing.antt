@@ -24,7 +24,7 @@ use Rattle.paper.specs.Lines.{End, Placed, Frontier, Taking, position_above, pus
 use Rattle.order_theory.proofs.Order.{ordered-times}
 use Rattle.order_theory.proofs.Refusals.{sound}
 use Rattle.order_theory.proofs.Links.{out-known}
-use Rattle.lines_theory.specs.Lined.{Lined, Next, targets, taking, old_lines, fresh, level, newcomer, made}
+use Rattle.lines_theory.specs.Lined.{Lined, Next, targets, taking, old_lines, fresh, level, newcomer}
 use Rattle.lines_theory.proofs.Pushing.{push-times, made-ports}
 use Rattle.lines_theory.proofs.PlacingEnds.{lines_enough}
 use Rattle.lines_theory.proofs.Placing.{place-grows}

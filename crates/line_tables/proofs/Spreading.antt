@@ -1,6 +1,6 @@
 -- What spreading out leaves, section by section.
 -- Rests on Widening, Links and Rows.
-use Prim.Native.Nat.{ℕ, zero, suc, ◌+◌, ◌-◌, ◌*◌, ◌≤◌, ◌<◌}
+use Prim.Native.Nat.{ℕ, zero, suc, ◌+◌, ◌*◌, ◌≤◌, ◌<◌}
 use native.Mathlib.Decide.{dec_lt}
 use native.Mathlib.Omega.{arith}
 use mathlib.Core.Path.{◌≡◌, sym, ap, ap₂, ◌∙◌, subst}
@@ -15,7 +15,6 @@ use Rattle.lists.proofs.Upto.{length-table, get_or-table}
 use Rattle.paper.specs.Map.{L, P, first_port, source_port, target_port, in_links, out_links}
 use Rattle.paper.specs.Order.{order}
 use Rattle.paper.specs.Lines.{new_lines, frontier_after}
-use Rattle.paper.specs.Area.{starts}
 use Rattle.order_theory.specs.Sound.{Sound}
 use Rattle.order_theory.proofs.Ports.{ports-below}
 use Rattle.order_theory.proofs.Refusals.{sound}

@@ -6,7 +6,7 @@ use native.Mathlib.Omega.{arith}
 use mathlib.Core.Path.{◌≡◌, refl, sym, ap, ◌∙◌, subst}
 use mathlib.Core.List.{List, [], map, map-map, Memᴰ}
 use lib.ListN.{length, length-map}
-use Rattle.lists.specs.Lists.{upto, sum, one, count, member, times, Rising}
+use Rattle.lists.specs.Lists.{upto, sum, one, member, times, Rising}
 use Rattle.lists.specs.Bounds.{Below}
 use Rattle.lists.proofs.Upto.{length_from, length-table, get_or-table}
 use Rattle.lists.proofs.Count.{length-keep, times-upto, times_past}

@@ -9,7 +9,7 @@ use mathlib.Core.Bool.{Bool}
 use mathlib.Core.List.{List, [], ◌∷◌, ◌++◌, map, Memᴰ}
 use lib.ListN.{length, length-append, length-map}
 use lib.Dec.{eqb}
-use Rattle.lists.specs.Lists.{upto, count, times}
+use Rattle.lists.specs.Lists.{upto, times}
 use Rattle.lists.proofs.Count.{count_map}
 use Rattle.paper.specs.Map.{L, link_from, link_to, source_port, port_node, in_links, out_links}
 use Rattle.paper.specs.Lines.{End, Frontier}

@@ -10,7 +10,7 @@ use lib.Seq.{sets, length-sets}
 use Rattle.lists.specs.Lists.{upto}
 use Rattle.lists.proofs.Sections.{Disjoint, part, part-sets_in}
 use Rattle.lists.proofs.Upto.{length-table}
-use Rattle.paper.specs.Map.{L, P, first_port, source_port, target_port}
+use Rattle.paper.specs.Map.{first_port, source_port, target_port}
 use Rattle.order_theory.proofs.Refusals.{sound}
 use Rattle.stepmap.specs.Formed.{ReadWell}
 use Rattle.stepmap.specs.declared.read.Sizes.{Sizes}
@@ -19,7 +19,7 @@ use Rattle.tables.specs.Within.{Within}
 use Rattle.tables.proofs.Within.{within_none, within_both, within-sets}
 use Rattle.neighbours.specs.declared.Listing.{Listing}
 use Rattle.neighbours.specs.Tabled.{Roomy, by_port}
-use Rattle.neighbours.specs.Linked.{Free, Linked, Outgoing, Incoming, OutgoingLaid, IncomingLaid, outgoing_size, incoming_size, with_outgoing}
+use Rattle.neighbours.specs.Linked.{Free, Linked, Outgoing, OutgoingLaid, IncomingLaid, outgoing_size, incoming_size, with_outgoing}
 use Rattle.neighbours.proofs.Writing.{source-below, target_below}
 use Rattle.neighbours.proofs.Sorting.{starts_stand, sorted_stand, others_stand, only_here}
 

@@ -5,7 +5,7 @@ ghost use Rattle.refusals.specs.Said.{ruled, ruling};
 ghost use Rattle.opening.specs.Opened.{HasScratch, opened_said, scratch_zeroed};
 
 use super::Opened;
-use refusals::{Refusal, never};
+use refusals::Refusal;
 use tables::Layout;
 use words::section::fill;
 
@@ -15,7 +15,7 @@ pub fn refusal(opened: Opened) -> Refusal
     ensures { ruled result ≡ ruling (opened_said opened) }
 {
     let Opened::Refused(x) = opened else {
-        return never();
+        unreachable!();
     };
     x
 }

@@ -11,24 +11,7 @@ use Rattle.paper.specs.Intervals.{Yes, No}
 use Rattle.paper.specs.Refusals.{Answer, refused, answered}
 use Rattle.paper.specs.Calls.{prepare}
 use Rattle.paper.proofs.Everything.{everything}
-use Rattle.paper.proofs.Recording.{
-  Node,
-  node,
-  Link,
-  link,
-  Recording,
-  line,
-  order,
-  intervals,
-  extend,
-  port,
-  line_ports,
-  order_ports,
-  given,
-  none,
-  holds,
-  map_bytes,
-}
+use Rattle.paper.proofs.Recording.{Node, node, Link, link, Recording, line, intervals, extend, port, line_ports, order_ports, given, none, holds, map_bytes}
 
 -- a map that is prepared and asked, or one that preparing refuses
 pub data Case : Type 0 where

@@ -11,7 +11,7 @@ use Rattle.paper.specs.Refusals.{Answer, refused, answered}
 use Rattle.paper.specs.Path.{Shown, steps, no_steps}
 use Rattle.paper.specs.Calls.{LeftWith, prepare, show_path}
 use Rattle.paper.proofs.Everything.{everything}
-use Rattle.paper.proofs.Recording.{Node, node, Link, link, Recording, map_bytes}
+use Rattle.paper.proofs.Recording.{Node, node, Link, link, map_bytes}
 use Rattle.paper.proofs.Cases.{map_a, map_b}
 
 -- a list asked of a map, with a room of so many words, each 9

@@ -3,7 +3,7 @@
 use Prim.Native.Nat.{ℕ, ◌+◌, ◌*◌}
 use mathlib.Core.Bool.{Bool, true, false, ◌&&◌}
 use mathlib.Core.List.{List, [], ◌∷◌, ◌++◌, map, flat_map}
-use lib.ListN.{length, get_or, take, drop, replicate}
+use lib.ListN.{length, get_or, drop, replicate}
 use lib.Seq.{sets}
 use lib.Dec.{eqb}
 use Rattle.lists.specs.Lists.{upto, all, same}
@@ -13,24 +13,7 @@ use Rattle.paper.specs.Words.{bytes_from}
 use Rattle.paper.specs.Area.{W, Section, start, size, order_of, position, lines_of, nodes_of}
 use Rattle.paper.specs.Intervals.{Reply, Yes, No}
 use Rattle.paper.specs.Refusals.{Answer, refused, answered, whole_records}
-use Rattle.paper.specs.Calls.{
-  Left,
-  LeftWith,
-  Written,
-  wrote,
-  found_apart,
-  prepare,
-  is_node_convex,
-  topo_is_node_convex,
-  is_convex,
-  topo_is_convex,
-  get_intervals_from_nodes,
-  is_convex_by_intervals,
-  try_extend_intervals,
-  nodes_in_intervals,
-  lines_at_port,
-  view_of_port,
-}
+use Rattle.paper.specs.Calls.{Written, wrote, found_apart, prepare, is_node_convex, topo_is_node_convex, is_convex, topo_is_convex, get_intervals_from_nodes, is_convex_by_intervals, try_extend_intervals, nodes_in_intervals, lines_at_port, view_of_port}
 
 -- ---- a map's bytes
 

@@ -4,7 +4,6 @@ use Prim.Native.Nat.{ℕ}
 use native.Mathlib.Omega.{arith}
 use mathlib.Core.Path.{◌≡◌, refl}
 use mathlib.Core.Bool.{Bool, false}
-use mathlib.Core.List.{[], ◌∷◌}
 use Rattle.paper.specs.Refusals.{answered, refused}
 use Rattle.port_conflict.specs.Said.{ports_said, after_marks}
 use Rattle.port_conflict.specs.declared.PortsFound.{PortsFound}

@@ -2,15 +2,15 @@
 -- Rests on Same, Parts and Answers.
 use Prim.Native.Nat.{ℕ, ◌+◌, ◌-◌, ◌≤◌, ◌<◌}
 use native.Mathlib.Omega.{arith}
-use mathlib.Core.Path.{◌≡◌, refl, sym, subst, ap, ◌∙◌}
+use mathlib.Core.Path.{◌≡◌, sym, subst, ap, ◌∙◌}
 use mathlib.Core.Bool.{Bool, true, false, ◌&&◌, and-false}
-use mathlib.Core.List.{List, [], ◌∷◌, ◌++◌}
+use mathlib.Core.List.{List, ◌∷◌, ◌++◌}
 use lib.ListN.{length, get_or, take, drop, length-drop, drop_of_length-le}
 use lib.Seq.{sets, sets-eq, take_all, take-append_seam, length-take-le}
 use lib.Dec.{leb}
 use borrow.Author.Tests.{lt-leb, le-leb}
 use Rattle.lists.specs.Lists.{one, same}
-use Rattle.paper.specs.Refusals.{Answer, refused, answered}
+use Rattle.paper.specs.Refusals.{Answer}
 use Rattle.paper.specs.Intervals.{Reply}
 use Rattle.paper.specs.Calls.{Left, LeftWith, Written, area_after, call, lines_at_port, view_of_port}
 use Rattle.paper.specs.Exports.{Told}

@@ -2,9 +2,9 @@
 -- Rests on Sections and tables' Placed.
 use Prim.Native.Nat.{ℕ, ◌+◌, ◌-◌, ◌≤◌}
 use native.Mathlib.Omega.{arith}
-use mathlib.Core.Path.{◌≡◌, refl, sym, ap, ap₂, subst, fun_ext, ◌∙◌}
+use mathlib.Core.Path.{◌≡◌, sym, ap, ap₂, subst, fun_ext, ◌∙◌}
 use mathlib.Core.Bool.{Bool, true, false, cond}
-use mathlib.Core.List.{List, [], ◌∷◌}
+use mathlib.Core.List.{List, ◌∷◌}
 use lib.ListN.{length, get_or, take, drop, length-drop}
 use lib.Seq.{length-take-le}
 use Rattle.lists.specs.Lists.{same}
@@ -15,7 +15,7 @@ use Rattle.stepmap.specs.declared.read.Sizes.{Sizes}
 use Rattle.tables.specs.Placed.{Few, LaidOut}
 use Rattle.tables.specs.declared.Layout.{Layout}
 use Rattle.tables.proofs.Placed.{few, places}
-use Rattle.recorded.specs.Sections.{used_at, used_in, UsedAt, Between, IsPart, SameSection}
+use Rattle.recorded.specs.Sections.{used_at, used_in, UsedAt, IsPart, SameSection}
 use Rattle.recorded.specs.declared.line_parts.Part.{Part}
 use Rattle.recorded.specs.declared.line_parts.Part.TheVariants.{Words, Missing}
 

@@ -16,7 +16,7 @@ ghost use Rattle.records.specs.Tested.{AllTested, Tested, checked_said};
 use bad::check_record;
 use inside::straddles;
 use layout::LineSlots;
-use refusals::{Refusal, never};
+use refusals::Refusal;
 use tables::Layout;
 use words::section::fill;
 
@@ -33,7 +33,7 @@ pub fn record_refusal(checked: Checked) -> Refusal
     ensures { ruled result ≡ checked_said checked }
 {
     let Checked::Refused(x) = checked else {
-        return never();
+        unreachable!();
     };
     x
 }

@@ -65,10 +65,3 @@ pub fn place(x: Refusal) -> usize
         Refusal::TooLong(needed) => needed,
     }
 }
-
-// Stands in an arm that is never taken: a caller has to show that nothing holds there, so no refusal is ever made up.
-pub fn never() -> Refusal
-    requires { ⊥ }
-{
-    loop {}
-}

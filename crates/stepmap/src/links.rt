@@ -10,7 +10,7 @@ ghost use Rattle.stepmap.specs.Said.{links_said};
 
 use super::access::{link_from, link_in, link_out, link_to, num_inputs, num_outputs};
 use super::ports::first_ports;
-use refusals::{Refusal, never};
+use refusals::Refusal;
 use words::field::wide;
 
 // What the check finds: no fault, or refusal 4 or 5 at a link.
@@ -26,7 +26,7 @@ pub fn link_refusal(found: Links) -> Refusal
     ensures { ruled result ≡ links_said found }
 {
     let Links::Refused(x) = found else {
-        return never();
+        unreachable!();
     };
     x
 }

@@ -9,7 +9,7 @@ ghost use Rattle.stepmap.specs.Said.{map_said};
 
 use super::access::{num_inputs, num_outputs, number_at};
 use super::ports::first_port;
-use refusals::{Refusal, never};
+use refusals::Refusal;
 
 // How many nodes, links and ports a map has: what the reader finds, handed on by value.
 #[derive(Clone, Copy)]
@@ -36,7 +36,7 @@ pub fn map_refusal(read: StepMap) -> Refusal
     ensures { ruled result ≡ ruling (map_said read) }
 {
     let StepMap::Refused(x) = read else {
-        return never();
+        unreachable!();
     };
     x
 }

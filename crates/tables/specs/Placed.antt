@@ -2,7 +2,6 @@
 -- Rests on paper's Area and stepmap's ReadWell.
 use Rattle.std.specs.Prelude.{ℕ, ◌+◌, ◌*◌, ◌≤◌, ◌≡◌, List}
 use Rattle.paper.specs.Area.{Section, line_count, order, positions, node_starts, lines_of_nodes, line_starts, nodes_of_lines, scratch, start, W}
-use Rattle.stepmap.specs.Formed.{ReadWell}
 use Rattle.stepmap.specs.declared.read.Sizes.{Sizes}
 use Rattle.tables.specs.declared.Layout.{Layout}
 

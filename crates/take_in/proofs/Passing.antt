@@ -12,7 +12,7 @@ use lib.Seq.{take-length}
 use borrow.Author.Tests.{leb-false, eq-eqb, ne_eqb}
 use Rattle.lists.specs.Lists.{one, times}
 use Rattle.lists.specs.Bounds.{Below}
-use Rattle.lists.specs.Found.{Found, absent, at, placed}
+use Rattle.lists.specs.Found.{Found, absent, placed}
 use Rattle.lists.proofs.Count.{one_eq, one_ne, count-take-suc}
 use Rattle.lists.proofs.First.{first_absent}
 use Rattle.lists.proofs.Members.{member_yes}

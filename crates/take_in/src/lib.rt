@@ -10,7 +10,7 @@ ghost use Rattle.refusals.specs.Said.{ruled, ruling};
 ghost use Rattle.take_in.specs.Taking.{Known, Taking, Took};
 ghost use Rattle.take_in.specs.Said.{EachTaken, TakenIn, earliest_said, taken_said};
 
-use refusals::{Refusal, never};
+use refusals::Refusal;
 use words::field::{field_at, wide};
 use words::section::fill;
 
@@ -34,7 +34,7 @@ pub fn list_refusal(taken: Taken) -> Refusal
     ensures { ruled result ≡ ruling (taken_said taken) }
 {
     let Taken::Refused(x) = taken else {
-        return never();
+        unreachable!();
     };
     x
 }

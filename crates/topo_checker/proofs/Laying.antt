@@ -1,6 +1,6 @@
 -- Laying out the scratch: each section finds its own, and what is laid stands while the marks behind it are written.
 -- Rests on neighbours.Keeping, convexity_theory.Places and tables' Usable and Within.
-use Prim.Native.Nat.{ℕ, ◌+◌, ◌*◌, ◌-◌, ◌≤◌, ◌<◌}
+use Prim.Native.Nat.{ℕ, ◌+◌, ◌*◌, ◌≤◌, ◌<◌}
 use native.Mathlib.Decide.{dec_lt}
 use native.Mathlib.Omega.{arith}
 use mathlib.Core.Path.{◌≡◌, sym, ap, ap₂, ◌∙◌, subst}

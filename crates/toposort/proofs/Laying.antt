@@ -19,7 +19,7 @@ use Rattle.paper.specs.Map.{N, L, link_to, in_links}
 use Rattle.paper.specs.Order.{Queue, fills_last, follow}
 use Rattle.order_theory.specs.Sound.{Sound}
 use Rattle.order_theory.specs.Queued.{Queued, filled}
-use Rattle.order_theory.proofs.Queue.{room, spare, spare_room}
+use Rattle.order_theory.proofs.Queue.{spare, spare_room}
 use Rattle.order_theory.proofs.Refusals.{sound}
 use Rattle.toposort.specs.Queue.{Counters, Following, lowered, followed}
 use Rattle.tables.specs.declared.Layout.{Layout}

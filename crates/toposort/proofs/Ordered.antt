@@ -24,7 +24,7 @@ use Rattle.paper.specs.Order.{started, queue_after, never_ordered, order as orde
 use Rattle.paper.specs.Refusals.{Ruling, refuse, rule6}
 use Rattle.order_theory.specs.Sound.{Sound}
 use Rattle.order_theory.specs.Queued.{filled}
-use Rattle.order_theory.proofs.Queue.{joined_once, filled-most, filled-all, room}
+use Rattle.order_theory.proofs.Queue.{joined_once, filled-most, filled-all}
 use Rattle.order_theory.proofs.Turns.{after-grows}
 use Rattle.order_theory.proofs.Queued.{queued}
 use Rattle.order_theory.proofs.Refusals.{in_placed, never_ordered_lem}

@@ -1,6 +1,6 @@
 -- How a refusal, or none, is passed up with its area; and that what ordering laid is gone once all the words are written.
 -- Rests on tables' Within and lists.Sections.
-use Prim.Native.Nat.{ℕ, ◌+◌, ◌≤◌}
+use Prim.Native.Nat.{ℕ, ◌≤◌}
 use native.Mathlib.Omega.{arith}
 use mathlib.Core.Path.{◌≡◌, refl, sym, ap, ◌∙◌}
 use mathlib.Core.List.{List, [], ◌∷◌, ◌++◌}

@@ -9,7 +9,7 @@ ghost use Rattle.toposort.specs.Laid.{Left, OrderLeft, Ready, ordered_said};
 use super::queue::Order;
 use super::toposort;
 use neighbours::{Listing, lay_outgoing};
-use refusals::{Refusal, never};
+use refusals::Refusal;
 use stepmap::links::{Links, check_links, link_refusal};
 use stepmap::read::{Sizes, StepMap, map_refusal, read_map};
 use tables::{Layout, lay_out};
@@ -28,7 +28,7 @@ pub fn refusal(ordered: Ordered) -> Refusal
     ensures { ruled result ≡ ruling (ordered_said ordered) }
 {
     let Ordered::Refused(x) = ordered else {
-        return never();
+        unreachable!();
     };
     x
 }

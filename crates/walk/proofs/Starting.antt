@@ -30,7 +30,7 @@ use Rattle.tables.proofs.Usable.{tables_still, still_usable}
 use Rattle.walk.specs.Queue.{Queued, Grown}
 use Rattle.neighbours.proofs.Keeping.{linked-kept}
 use Rattle.walk.specs.Fitting.{Queueing}
-use Rattle.walk.specs.Walks.{Laid, Started, Ended, Walks}
+use Rattle.walk.specs.Walks.{Laid, Ended, Walks}
 use Rattle.walk.specs.Starts.{Starting, LaidOut, Begun}
 use Rattle.walk.specs.declared.starts.Room.{Room}
 use Rattle.walk.specs.declared.turns.Walked.{Walked}

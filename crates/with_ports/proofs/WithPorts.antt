@@ -3,7 +3,7 @@
 use Prim.Native.Nat.{ℕ}
 use mathlib.Core.Path.{◌≡◌, refl, sym, ap, ◌∙◌}
 use mathlib.Core.Bool.{Bool, true, false, cond}
-use mathlib.Core.List.{List, [], ◌∷◌, ◌++◌}
+use mathlib.Core.List.{List, ◌++◌}
 use Rattle.paper.specs.Refusals.{Ruling, passed, refusal, Answer, answer, answered, refused, decide}
 use Rattle.refusals.specs.Said.{ruling}
 use Rattle.refusals.proofs.Rulings.{ruling-answer, no_refusal, first_decides}

@@ -1,3 +1,5 @@
+-- `acceptance::accepted` meets its contract: each refusal is a sentence of the definition that fails, and the last answer says them all.
+-- Rests on Whole.
 use Rattle.std.proofs.Common.{ap, arith, not}
 use Rattle.acceptance.proofs.Whole.{linked, too_many, sized, unknown, unordered, not_rising, tables, lists_differ, accepted_if, as_accepted}
 use Rattle.acceptance.proofs.accepted.Goals as goal

@@ -9,7 +9,7 @@ use mathlib.Core.Bool.{Bool, true, false, cond}
 use mathlib.Core.List.{List, [], ◌∷◌, ◌++◌, map, flat_map, map-append}
 use lib.ListN.{length, length-map, replicate}
 use lib.Dec.{eqb}
-use Rattle.lists.specs.Lists.{one, count, keep, member, times, once, In, Distinct}
+use Rattle.lists.specs.Lists.{one, keep, member, times, once, In, Distinct}
 use Rattle.lists.specs.Bounds.{Below}
 use Rattle.lists.proofs.Upto.{keep_append, count-append}
 use Rattle.lists.proofs.Count.{one-small, times-keep, cond_small, length-keep, count_map}

@@ -1,3 +1,5 @@
+-- `byte_path::find_path` meets its contract: 8, 9 and 10 as taking the list in says, then the path of its nodes.
+-- Rests on PathFound and take_in's ListTaken.
 use Rattle.take_in.proofs.ListTaken.{not_taken}
 use Rattle.byte_path.proofs.PathFound.{not_shown, shown_in}
 use Rattle.byte_path.proofs.find_path.Goals as goal

@@ -1,3 +1,5 @@
+-- `byte_path::show_path_of_list_bytes` meets its contract: the path of the list goes from the room into the bytes.
+-- Rests on PathFound and line_checker's FromList.
 use Rattle.std.proofs.Common.{ap, arith}
 use Rattle.answers.specs.Said.{path_said}
 use Rattle.tables.proofs.Usable.{still_usable}

@@ -1,3 +1,5 @@
+-- `byte_ports::check_order_with_ports_bytes` meets its contract: as check_order_with_ports, with the words that the bytes stand for.
+-- Rests on with_ports' WithPorts.
 use Rattle.std.proofs.Common.{ap}
 use Rattle.paper.specs.Intervals.{Reply}
 use Rattle.paper.specs.OrderCheck.{order_check}

@@ -1,3 +1,5 @@
+-- `byte_records::check_by_records_bytes` meets its contract: 8, a count beyond the buffer, and then the check of the first records, which decides for all.
+-- Rests on Crossed and Reading.
 use Rattle.std.proofs.Common.{refl}
 use Rattle.refusals.specs.declared.Refusal.TheVariants.{BadRecord}
 use Rattle.line_checker.proofs.RecordCalls.{not_given, by_records_refused}

@@ -1,3 +1,5 @@
+-- `byte_records::extend_records_bytes` meets its contract: 9, a count beyond the buffer, and then the first records extended in a room and put back.
+-- Rests on Crossed, Reading, and line_checker's ExtendFound and Out.
 use Rattle.std.proofs.Common.{[], ap, arith, length, refl, ◌*◌, ◌/◌, ◌≤◌}
 use Rattle.paper.specs.Calls.{wrote}
 use Rattle.paper.specs.Words.{words_from}

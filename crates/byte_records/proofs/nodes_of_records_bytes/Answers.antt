@@ -1,3 +1,5 @@
+-- `byte_records::nodes_of_records_bytes` meets its contract: a count beyond the buffer, and then the nodes in the first records, put into the buffer.
+-- Rests on Crossed, Reading, and line_checker's NodesFound and Out.
 use Rattle.std.proofs.Common.{[], ap, arith, length, refl, ◌/◌, ◌≤◌}
 use Rattle.paper.specs.Words.{words_from}
 use Rattle.refusals.specs.declared.Refusal.TheVariants.{BadRecord}

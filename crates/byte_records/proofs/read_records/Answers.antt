@@ -1,3 +1,5 @@
+-- `byte_records::read_records` meets its contract: the words of the first bytes are the first words.
+-- Rests on Reading.
 use Rattle.byte_records.proofs.Reading.{read_first}
 use Rattle.byte_records.proofs.read_records.Goals as goal
 

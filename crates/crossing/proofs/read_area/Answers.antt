@@ -1,3 +1,5 @@
+-- `crossing::read_area` meets its contract: the first 63,502 bytes hold the first 31,751 words, and fewer bytes hold fewer words.
+-- Rests on Crossed.
 use Rattle.std.proofs.Common.{rules}
 use Rattle.crossing.proofs.Crossed.{read_first, read_all}
 use Rattle.crossing.proofs.read_area.Goals as goal

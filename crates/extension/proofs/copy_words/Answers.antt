@@ -1,3 +1,5 @@
+-- `extension::copy_words` meets its contract: the words passed are copied.
+-- Rests on Putting.
 use Rattle.std.proofs.Common.{arith, refl}
 use Rattle.extension.proofs.Putting.{copied_next, copied_all}
 use Rattle.extension.proofs.copy_words.Goals as goal

@@ -1,3 +1,5 @@
+-- `extension::extend` meets its contract: the records are copied, and the node's lines are handed on as a part of the area.
+-- Rests on Ending.
 use Rattle.std.proofs.Common.{arith, ◌+◌}
 use Rattle.tables.proofs.Words.{lines-span}
 use Rattle.extension.proofs.Ending.{few_given, lines-ready, extended}

@@ -1,3 +1,5 @@
+-- `extension::extend_line` meets its contract: a line without a mark gets a new record, else its own grows or stops it.
+-- Rests on Extending.
 use Rattle.std.proofs.Common.{ap, arith, not}
 use Rattle.tables.proofs.Words.{count-few, nodes-span}
 use Rattle.extension.proofs.Extending.{few-made, room-there, new_record, can_grow, grown_record, stopped_record}

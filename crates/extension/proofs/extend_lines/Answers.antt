@@ -1,3 +1,5 @@
+-- `extension::extend_lines` meets its contract: after i lines, what is left to do comes to what the whole comes to.
+-- Rests on Going.
 use Rattle.extension.proofs.Going.{at_first, line-ready, stops, goes, ends}
 use Rattle.extension.proofs.extend_lines.Goals as goal
 

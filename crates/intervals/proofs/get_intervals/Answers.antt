@@ -1,3 +1,5 @@
+-- `intervals::get_intervals` meets its contract: the counts are set to 0, the nodes added, and the records tested.
+-- Rests on Cleared and Whole.
 use Rattle.std.proofs.Common.{arith}
 use Rattle.paper.proofs.Area.{W-sum}
 use Rattle.intervals.proofs.Cleared.{can_add-nodes}

@@ -1,3 +1,5 @@
+-- `line_lists::nodes_of_lines` meets its contract: each step finds ready what it asks, and the four come to the columns.
+-- Rests on Whole.
 use Rattle.counting_sort.proofs.Whole.{ready₁, zeros₁, ready₂}
 use Rattle.line_lists.proofs.Reading.{sorting}
 use Rattle.line_lists.proofs.Counted.{counted}

@@ -1,3 +1,5 @@
+-- `line_lists::push_node` meets its contract: before entry e of the row, the entries before it are pushed.
+-- Rests on Row.
 use Rattle.std.proofs.Common.{arith, length, length-set, rules, ◌*◌, ◌+◌, ◌<◌, ◌^◌, ◌∙◌}
 use Rattle.line_lists.proofs.Row.{first-inside, second-inside, as_long, none-pushed, all-pushed, entry-inside, cursor_inside, spot_room, spot_word, pushed-on}
 use Rattle.line_lists.proofs.push_node.Goals as goal

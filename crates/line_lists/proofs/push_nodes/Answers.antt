@@ -1,3 +1,5 @@
+-- `line_lists::push_nodes` meets its contract: before turn t the first t nodes of the order are pushed.
+-- Rests on Rows.
 use Rattle.std.proofs.Common.{arith, length, ◌*◌, ◌<◌, ◌^◌, ◌∙◌}
 use Rattle.line_lists.proofs.Rows.{as_long, none-pushed, node-inside, can_push, pushed-on, all-pushed}
 use Rattle.line_lists.proofs.push_nodes.Goals as goal

@@ -1,3 +1,5 @@
+-- `line_tables::lay_lines` meets its contract: every word of the tables stands.
+-- Rests on Finishing.
 use Rattle.std.proofs.Common.{arith, refl}
 use Rattle.line_tables.proofs.Finishing.{counted, count-few, transposing, long₅, all_laid}
 use Rattle.line_tables.proofs.lay_lines.Goals as goal

@@ -1,3 +1,5 @@
+-- `list_questions::intervals_into` meets its contract: the answer and the buffer are the call's.
+-- Rests on recorded's Asked.
 use Rattle.std.proofs.Common.{ap, refl}
 use Rattle.paper.specs.Calls.{LeftWith, Written, call_into, get_intervals_from_nodes}
 use Rattle.recorded.specs.Answers.{written_words}

@@ -1,3 +1,5 @@
+-- `list_questions::same_intervals` meets its contract: the lists stand one behind the other, the buffer's words are lent in a room, and behind them stand the answer and the buffer.
+-- Rests on recorded's Asked and Bounds.
 use Rattle.std.proofs.Common.{List, arith, get_or, rules, ℕ}
 use Rattle.paper.specs.Calls.{get_intervals_from_nodes}
 use Rattle.recorded.specs.Parts.{behind}

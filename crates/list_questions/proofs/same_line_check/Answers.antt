@@ -1,3 +1,5 @@
+-- `list_questions::same_line_check` meets its contract: the list lies within the line, and behind it stands the answer.
+-- Rests on recorded's Asked and Bounds.
 use Rattle.std.proofs.Common.{ap, arith, rules, ℕ}
 use Rattle.recorded.proofs.Bounds.{within}
 use Rattle.recorded.proofs.Asked.{not-true, no_line, lacks, one_list}

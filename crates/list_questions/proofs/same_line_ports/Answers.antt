@@ -1,3 +1,5 @@
+-- `list_questions::same_line_ports` meets its contract: the three lists stand one behind the other, and behind them the answer.
+-- Rests on recorded's Asked and Bounds.
 use Rattle.std.proofs.Common.{ap, arith, rules, ℕ}
 use Rattle.recorded.proofs.Bounds.{within}
 use Rattle.recorded.proofs.Asked.{not-true, no_line, lacks, lacks_second, lacks_third, three_lists}

@@ -1,3 +1,5 @@
+-- `list_questions::same_port_lines` meets its contract: both calls are asked about the port, the view in the area that the first one left.
+-- Rests on recorded's Asked.
 use Rattle.std.proofs.Common.{ap, arith, ℕ}
 use Rattle.paper.specs.Calls.{Left, call, lines_at_port}
 use Rattle.recorded.specs.Questions.{same_port_lines}

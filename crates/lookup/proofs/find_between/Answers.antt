@@ -1,3 +1,5 @@
+-- `lookup::find_between` meets its contract: the position stays strictly between those of the ends, which come closer each turn.
+-- Rests on Searching.
 use Rattle.std.proofs.Common.{arith, ◌<◌}
 use Rattle.std.proofs.Common.{◌<◌, length, arith}
 use Rattle.lookup.specs.Ends.{Ends}

@@ -1,3 +1,5 @@
+-- `lookup::find_index` meets its contract: each answer at the ends, and the search between them.
+-- Rests on Searching.
 use Rattle.std.proofs.Common.{arith, ◌-◌}
 use Rattle.std.proofs.Common.{◌-◌, length, arith}
 use Rattle.lookup.proofs.Searching.{found, none_of_none, none_before, none-behind, bracketed}

@@ -1,3 +1,5 @@
+-- `lookup::next_after` meets its contract: the position is found, and the next node follows its index.
+-- Rests on Following.
 use Rattle.std.proofs.Common.{arith, ◌∙◌, ◌≡◌}
 use Rattle.std.proofs.Common.{◌≡◌, sym, ap, ◌∙◌, arith}
 use Rattle.lists.specs.Found.{at}

@@ -1,3 +1,5 @@
+-- `lookup::position_at` meets its contract: a line's node has a position, and it is a word.
+-- Rests on Along.
 use Rattle.std.proofs.Common.{arith, ◌<◌, ◌∙◌}
 use Rattle.std.proofs.Common.{ℕ, ◌<◌, length, get_or, sym, ap, ◌∙◌, arith}
 use Rattle.lookup.proofs.Along.{along-is}

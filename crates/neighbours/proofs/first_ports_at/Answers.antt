@@ -1,3 +1,5 @@
+-- `neighbours::first_ports_at` meets its contract: the section is lent whole, and comes back written whole.
+-- Rests on lists.Sections.
 use Rattle.std.proofs.Common.{arith, map, ◌+◌, ◌-◌, ◌∙◌}
 use Rattle.lists.specs.Lists.{upto}
 use Rattle.lists.proofs.Sections.{lent}

@@ -1,3 +1,5 @@
+-- `neighbours::lay_incoming` meets its contract: the first ports stand, and what is written is behind the links by output port, or keys.
+-- Rests on Laying.
 use Rattle.std.proofs.Common.{refl}
 use Rattle.neighbours.proofs.Laying.{roomy_in, incoming-laid}
 use Rattle.neighbours.proofs.lay_incoming.Goals as goal

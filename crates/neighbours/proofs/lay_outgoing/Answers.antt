@@ -1,3 +1,5 @@
+-- `neighbours::lay_outgoing` meets its contract: the sections stand one after the other, and each step finds its own.
+-- Rests on Laying.
 use Rattle.std.proofs.Common.{refl}
 use Rattle.stepmap.proofs.Known.{numbered}
 use Rattle.neighbours.proofs.Laying.{firsts-fit, roomy-out, outgoing-laid}

@@ -1,3 +1,5 @@
+-- `neighbours::target_at` meets its contract: a read of the link, and of its end.
+-- Rests on Reading.
 use Rattle.std.proofs.Common.{◌∙◌}
 use Rattle.neighbours.proofs.Reading.{has_listed, target_is}
 use Rattle.neighbours.proofs.target_at.Goals as goal

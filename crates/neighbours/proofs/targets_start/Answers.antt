@@ -1,3 +1,5 @@
+-- `neighbours::targets_start` meets its contract: two reads, the second at the place that the first gives.
+-- Rests on Reading.
 use Rattle.std.proofs.Common.{◌∙◌}
 use Rattle.neighbours.proofs.Reading.{start-inside, out-start}
 use Rattle.neighbours.proofs.targets_start.Goals as goal

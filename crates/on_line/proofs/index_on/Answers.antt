@@ -1,3 +1,5 @@
+-- `on_line::index_on` meets its contract: the line and the positions are handed on as parts of the area.
+-- Rests on Along and the contracts of entries and find_index.
 use Rattle.std.proofs.Common.{List, ap₂, subst₂, sym, ℕ, ◌∙◌}
 use Rattle.paper.specs.Lookup.{lookup}
 use Rattle.lookup.specs.Line.{Line, positions_on}

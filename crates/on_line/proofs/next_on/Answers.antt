@@ -1,3 +1,5 @@
+-- `on_line::next_on` meets its contract: the line and the positions are handed on as parts of the area.
+-- Rests on Along and the contracts of entries and next_after.
 use Rattle.std.proofs.Common.{List, ap₂, get_or, ltb, subst₂, sym, true, ℕ, ◌∙◌, ◌≡◌}
 use Rattle.lists.specs.Lists.{keep, member}
 use Rattle.lists.specs.Found.{front}

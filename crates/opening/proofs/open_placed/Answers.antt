@@ -1,3 +1,5 @@
+-- `opening::open_placed` meets its contract: refusal 3, else what `test_tables` says, with the scratch at 0.
+-- Rests on Opening.
 use Rattle.std.proofs.Common.{arith, refl, rules}
 use Rattle.opening.proofs.Opening.{no_room, room}
 use Rattle.opening.proofs.open_placed.Goals as goal

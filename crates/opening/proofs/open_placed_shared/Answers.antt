@@ -1,3 +1,5 @@
+-- `opening::open_placed_shared` meets its contract: refusal 3, else what `test_tables` says.
+-- Rests on Opening.
 use Rattle.std.proofs.Common.{rules}
 use Rattle.opening.proofs.Opening.{no_room-said, room-said}
 use Rattle.opening.proofs.open_placed_shared.Goals as goal

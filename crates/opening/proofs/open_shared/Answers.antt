@@ -1,3 +1,5 @@
+-- `opening::open_shared` meets its contract: refusal 1 or 2, else what `open_placed_shared` says.
+-- Rests on Opening, stepmap's Answers and refusals' Rulings.
 use Rattle.std.proofs.Common.{ap, sym, ◌∙◌}
 use Rattle.refusals.proofs.Rulings.{ruled_by_lem}
 use Rattle.stepmap.specs.Said.{map_said}

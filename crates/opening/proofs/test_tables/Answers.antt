@@ -1,3 +1,5 @@
+-- `opening::test_tables` meets its contract: 4 or 5 at a bad link, then 7 as the acceptance test says.
+-- Rests on Opening and stepmap's Answers.
 use Rattle.std.proofs.Common.{ap, not, sym, ◌∙◌}
 use Rattle.stepmap.specs.Said.{links_said}
 use Rattle.stepmap.proofs.Answers.{links_refused}

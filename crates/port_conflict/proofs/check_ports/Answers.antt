@@ -1,3 +1,5 @@
+-- `port_conflict::check_ports` meets its contract: the lists are marked, and the links looked at.
+-- Rests on Answering and tables' Usable.
 use Rattle.std.proofs.Common.{arith}
 use Rattle.tables.proofs.Usable.{still_usable}
 use Rattle.port_conflict.proofs.Answering.{answers}

@@ -1,3 +1,5 @@
+-- `port_conflict::look_at_links` meets its contract: what is told already, or the pass over the links behind the first ports.
+-- Rests on Answering.
 use Rattle.std.proofs.Common.{arith}
 use Rattle.stepmap.proofs.Known.{numbered}
 use Rattle.tables.proofs.Within.{within_none}

@@ -1,3 +1,5 @@
+-- `port_lines::end_node` meets its contract, by direction.
+-- Rests on the contracts of link_from and link_to.
 use Rattle.port_lines.proofs.end_node.Goals as goal
 
 pub returns-then-out : goal.returns-then-out

@@ -1,3 +1,5 @@
+-- `port_lines::end_offset` meets its contract, by direction.
+-- Rests on the contracts of link_out and link_in.
 use Rattle.port_lines.proofs.end_offset.Goals as goal
 
 pub returns-then-out : goal.returns-then-out

@@ -1,3 +1,5 @@
+-- `port_lines::first_line` meets its contract: the links at offsets below the port's own.
+-- Rests on PortLines.
 use Rattle.port_lines.proofs.PortLines.{first_counted}
 use Rattle.port_lines.proofs.first_line.Goals as goal
 

@@ -1,3 +1,5 @@
+-- `port_lines::line_count` meets its contract: the links at the port's own offset.
+-- Rests on PortLines.
 use Rattle.std.proofs.Common.{arith}
 use Rattle.port_lines.proofs.PortLines.{offset_small, lines-counted}
 use Rattle.port_lines.proofs.line_count.Goals as goal

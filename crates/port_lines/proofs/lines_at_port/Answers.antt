@@ -1,3 +1,5 @@
+-- `port_lines::lines_at_port` meets its contract: the part starts where the port's lines do, has a word for each of them, and is within the area.
+-- Rests on PortLines and tables' Words.
 use Rattle.std.proofs.Common.{ap₂, arith, refl, ℕ, ◌+◌, ◌-◌, ◌∙◌}
 use lib.Seq.{slice}
 use Rattle.tables.proofs.Words.{between}

@@ -1,3 +1,5 @@
+-- `port_lines::link_among` meets its contract: a link elsewhere, too early, too late, or among the ports.
+-- Rests on Among.
 use Rattle.port_lines.proofs.Among.{elsewhere, too_early, too_late, among}
 use Rattle.port_lines.proofs.link_among.Goals as goal
 

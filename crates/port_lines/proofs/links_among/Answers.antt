@@ -1,3 +1,5 @@
+-- `port_lines::links_among` meets its contract. The loop: the count is that of the first k links.
+-- Rests on Among.
 use Rattle.std.proofs.Common.{ap, arith, refl, rules, ◌∙◌, ◌≡◌}
 use Rattle.lists.proofs.Count.{one-small}
 use Rattle.paper.specs.Map.{L}

@@ -1,3 +1,5 @@
+-- `port_lines::view_start` meets its contract: the section of the lines, the start of the node's list and the place of the port's first line in it.
+-- Rests on PortLines.
 use Rattle.std.proofs.Common.{arith}
 use Rattle.port_lines.proofs.PortLines.{node-known, start_so, start-inside}
 use Rattle.port_lines.proofs.view_start.Goals as goal

@@ -1,3 +1,5 @@
+-- `record_questions::extends_to` meets its contract: the answer and the buffer are the call's.
+-- Rests on recorded's Asked.
 use Rattle.std.proofs.Common.{ap, refl}
 use Rattle.paper.specs.Calls.{LeftWith, Written, call_into, try_extend_intervals}
 use Rattle.recorded.specs.Answers.{written_words}

@@ -1,3 +1,5 @@
+-- `record_questions::nodes_into` meets its contract: the answer and the buffer are the call's.
+-- Rests on recorded's Asked.
 use Rattle.std.proofs.Common.{ap, refl, ℕ}
 use Rattle.paper.specs.Calls.{LeftWith, call_into, nodes_in_intervals}
 use Rattle.recorded.specs.Answers.{count_words}

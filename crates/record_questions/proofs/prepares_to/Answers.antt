@@ -1,3 +1,5 @@
+-- `record_questions::prepares_to` meets its contract: the rest behind the map's fields is held against what preparing answers.
+-- Rests on recorded's Asked.
 use Rattle.std.proofs.Common.{List, ap, arith, get_or, ℕ, ◌*◌, ◌+◌, ◌≡◌}
 use Rattle.recorded.specs.Answers.{count_words}
 use Rattle.recorded.specs.Questions.{same_prepared}

@@ -1,3 +1,5 @@
+-- `record_questions::same_extension` meets its contract: the buffer lies within the line, its words are lent in a room, and behind it stand the answer and the buffer.
+-- Rests on recorded's Asked and Bounds.
 use Rattle.std.proofs.Common.{Bool, List, ap, arith, drop, get_or, rules, ℕ, ◌∙◌}
 use Rattle.lists.specs.Lists.{same}
 use Rattle.paper.specs.Calls.{LeftWith, Written, try_extend_intervals}

@@ -1,3 +1,5 @@
+-- `record_questions::same_nodes` meets its contract: the lists stand one behind the other, the buffer's words are lent in a room, and behind them stand the answer and the buffer.
+-- Rests on recorded's Asked and Bounds.
 use Rattle.std.proofs.Common.{Bool, List, ap, arith, drop, get_or, rules, ℕ, ◌∙◌}
 use Rattle.lists.specs.Lists.{same}
 use Rattle.paper.specs.Calls.{LeftWith, nodes_in_intervals}

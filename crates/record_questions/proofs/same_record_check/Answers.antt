@@ -1,3 +1,5 @@
+-- `record_questions::same_record_check` meets its contract: the records lie within the line, and behind them stands the answer.
+-- Rests on recorded's Asked and Bounds.
 use Rattle.std.proofs.Common.{Bool, List, ap, arith, drop, rules, ℕ, ◌∙◌}
 use Rattle.lists.specs.Lists.{same}
 use Rattle.paper.specs.Intervals.{Reply}

@@ -1,3 +1,5 @@
+-- `records::check_records` meets its contract: 12 by the count or at a bad record, else what 13 says.
+-- Rests on Testing.
 use Rattle.records.proofs.Testing.{beyond, bad_record_lem, nodes-there, all_tested}
 use Rattle.records.proofs.check_records.Goals as goal
 

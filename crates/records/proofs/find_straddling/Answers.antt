@@ -1,4 +1,6 @@
-use Rattle.std.proofs.Common.{arith, below_none, false}
+-- `records::find_straddling` meets its contract: no node passed straddles, and the first that does decides.
+-- Rests on Refusing.
+use Rattle.std.proofs.Common.{arith, below_none}
 use Rattle.records.proofs.Refusing.{next_fine, first_bad, none_bad}
 use Rattle.records.specs.Slots.{straddles_here}
 use Rattle.records.proofs.find_straddling.Goals as goal

@@ -1,3 +1,5 @@
+-- `records::slot_records` meets its contract: the records passed are good and marked, and the first bad one decides.
+-- Rests on Slotting.
 use Rattle.std.proofs.Common.{ap, arith, not}
 use Rattle.tables.proofs.Usable.{still_usable}
 use Rattle.tables.proofs.Within.{within_none, within_both}

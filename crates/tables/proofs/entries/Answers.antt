@@ -1,3 +1,5 @@
+-- A part of the area by its two ends is what lies between them.
+-- Rests on Words.
 use Rattle.std.proofs.Common.{ap₂, refl, ℕ, ◌+◌, ◌-◌, ◌∙◌}
 use lib.Seq.{slice}
 use Rattle.tables.specs.Usable.{entries_of}

@@ -1,3 +1,5 @@
+-- `take_in::first_unknown` meets its contract: the entries passed are known, and the first that is not decides.
+-- Rests on Search.
 use Rattle.std.proofs.Common.{arith, get_or, le-leb}
 use borrow.Author.Tests.{lt-leb}
 use Rattle.paper.specs.Refusals.{earliest}

@@ -1,3 +1,5 @@
+-- `take_in::first_unknown_bytes` meets its contract: as first_unknown, with entry i read from the bytes.
+-- Rests on Search and words' Turns.
 use Rattle.std.proofs.Common.{arith, get_or, le-leb}
 use borrow.Author.Tests.{lt-leb}
 use Rattle.paper.specs.Refusals.{earliest}

@@ -1,3 +1,5 @@
+-- `take_in::take_each` meets its contract: the entries passed are taken, none of them a repeat, and the first repeat decides.
+-- Rests on Each.
 use Rattle.std.proofs.Common.{ap, arith, not, refl}
 use Rattle.take_in.proofs.Each.{each-starts, each_on, each-stops, each-ends}
 use Rattle.take_in.proofs.take_each.Goals as goal

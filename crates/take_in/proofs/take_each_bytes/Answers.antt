@@ -1,3 +1,5 @@
+-- `take_in::take_each_bytes` meets its contract: as take_each, with entry i read from the bytes.
+-- Rests on Each, Search and words' Turns.
 use Rattle.std.proofs.Common.{ap, arith, not, sym, ◌∙◌}
 use Rattle.words.proofs.Turns.{length-words_from}
 use Rattle.take_in.proofs.Each.{each-starts, each_on, each-stops, each-ends}

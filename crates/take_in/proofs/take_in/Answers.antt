@@ -1,3 +1,5 @@
+-- `take_in::take_in` meets its contract: 8, then 9 of the whole list, then 10 as the entries are taken.
+-- Rests on Passing.
 use Rattle.std.proofs.Common.{ap, sym, ◌∙◌}
 use Rattle.take_in.proofs.Passing.{empty-list, unknown_entry}
 use Rattle.take_in.specs.Said.{earliest_said}

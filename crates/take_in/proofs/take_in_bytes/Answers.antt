@@ -1,3 +1,5 @@
+-- `take_in::take_in_bytes` meets its contract: as take_in, with the words that the bytes stand for.
+-- Rests on Passing and words' Turns.
 use Rattle.std.proofs.Common.{ap, sym, ◌∙◌}
 use Rattle.words.proofs.Turns.{length-words_from}
 use Rattle.take_in.proofs.Passing.{empty-list, unknown_entry}

@@ -1,3 +1,5 @@
+-- `take_in::take_known` meets its contract: the marks are cleared, and 10 comes as the entries are taken.
+-- Rests on Taking and Passing.
 use Rattle.std.proofs.Common.{refl}
 use Rattle.take_in.proofs.Passing.{all_known, repeated_entry, all-nodes}
 use Rattle.take_in.proofs.Taking.{nothing_taken, marks-cleared}

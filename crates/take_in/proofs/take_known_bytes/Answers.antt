@@ -1,3 +1,5 @@
+-- `take_in::take_known_bytes` meets its contract: as take_known, with the words that the bytes stand for.
+-- Rests on Taking, Passing and words' Turns.
 use Rattle.std.proofs.Common.{sym}
 use Rattle.words.proofs.Turns.{length-words_from}
 use Rattle.take_in.proofs.Passing.{all_known, repeated_entry, all-nodes}

@@ -1,3 +1,5 @@
+-- `take_in::take_node` meets its contract: the node's mark tells whether it was taken before.
+-- Rests on Taking.
 use Rattle.std.proofs.Common.{arith, length-set, ◌+◌}
 use Rattle.take_in.proofs.Taking.{was_taken, now_taken}
 use Rattle.take_in.proofs.take_node.Goals as goal

@@ -1,3 +1,5 @@
+-- `telling::tell_extended` meets its contract: how many records, not extendable, or a refusal.
+-- Rests on Told.
 use Rattle.std.proofs.Common.{[], ap, refl, ℕ, ◌∷◌}
 use Rattle.paper.specs.Exports.{in_written}
 use Rattle.answers.specs.Said.{extend_said}

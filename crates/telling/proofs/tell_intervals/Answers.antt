@@ -1,3 +1,5 @@
+-- `telling::tell_intervals` meets its contract: how many records, not contiguous, or a refusal.
+-- Rests on Told.
 use Rattle.std.proofs.Common.{[], ap, refl, ℕ, ◌∷◌}
 use Rattle.paper.specs.Exports.{in_written}
 use Rattle.answers.specs.Said.{intervals_said}

@@ -1,3 +1,5 @@
+-- `telling::tell_line` meets its contract: yes or no with the count, or a refusal.
+-- Rests on Told.
 use Rattle.std.proofs.Common.{[], ap, refl, ℕ, ◌∷◌}
 use Rattle.paper.specs.Exports.{in_line_reply}
 use Rattle.answers.specs.Said.{line_said}

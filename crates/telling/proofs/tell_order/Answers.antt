@@ -1,3 +1,5 @@
+-- `telling::tell_order` meets its contract: yes or no, or a refusal.
+-- Rests on Told.
 use Rattle.std.proofs.Common.{ap, refl}
 use Rattle.paper.specs.Exports.{in_reply}
 use Rattle.answers.specs.Said.{topo_said}

@@ -1,3 +1,5 @@
+-- `telling::tell_path` meets its contract: how many steps, no path, or a refusal.
+-- Rests on Told.
 use Rattle.std.proofs.Common.{[], ap, refl, ℕ, ◌∷◌}
 use Rattle.paper.specs.Exports.{in_shown}
 use Rattle.answers.specs.Said.{path_said}

@@ -1,3 +1,5 @@
+-- `telling::tell_port` meets its contract: the first place and the count, or a refusal.
+-- Rests on Told.
 use Rattle.std.proofs.Common.{[], ap, ap₂, refl, ℕ, ◌∷◌}
 use Rattle.paper.specs.Exports.{in_pair}
 use Rattle.answers.specs.Said.{port_lines_said}

@@ -1,3 +1,5 @@
+-- `telling::tell_prepared` meets its contract: K, or a refusal.
+-- Rests on Told.
 use Rattle.std.proofs.Common.{[], ap, refl, ℕ, ◌∷◌}
 use Rattle.paper.specs.Exports.{in_count}
 use Rattle.answers.specs.Said.{prepared_said}

@@ -1,3 +1,5 @@
+-- `topo_checker::answer_for` meets its contract: an unknown entry is refused, and else the places marked decide.
+-- Rests on Checking.
 use Rattle.topo_checker.proofs.Checking.{unknown_said, yes_said, no_said}
 use Rattle.topo_checker.proofs.answer_for.Goals as goal
 

@@ -1,3 +1,5 @@
+-- `topo_checker::check_order` meets its contract: the scratch is laid out, the list taken in, and answered for.
+-- Rests on Checking.
 use Rattle.topo_checker.proofs.Checking.{unlisted, laid_now, fresh, order_answered}
 use Rattle.topo_checker.proofs.check_order.Goals as goal
 

@@ -1,3 +1,5 @@
+-- `topo_checker::check_order_bytes` meets its contract: as check_order, with the list taken in from bytes.
+-- Rests on Checking.
 use Rattle.topo_checker.proofs.Checking.{unlisted, laid_now, fresh, order_answered}
 use Rattle.topo_checker.proofs.check_order_bytes.Goals as goal
 

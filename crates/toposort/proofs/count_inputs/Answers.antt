@@ -1,3 +1,5 @@
+-- `toposort::count_inputs` meets its contract: the targets of the links are written, and tallied.
+-- Rests on Inputs.
 use Rattle.toposort.proofs.Inputs.{tabled, filled-room, keyed, zeros, counted}
 use Rattle.toposort.proofs.count_inputs.Goals as goal
 

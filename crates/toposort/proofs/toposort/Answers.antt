@@ -1,3 +1,5 @@
+-- `toposort::toposort` meets its contract: the counters start the queue, the turns empty it, and what is left names the refusal.
+-- Rests on Ordered.
 use Rattle.toposort.proofs.Ordered.{counters, standing₀, laid₃, room₃, said}
 use Rattle.toposort.proofs.toposort.Goals as goal
 

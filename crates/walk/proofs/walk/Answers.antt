@@ -1,3 +1,5 @@
+-- `walk::walk` meets its contract: the turns answer from what the start leaves.
+-- Rests on Starting.
 use Rattle.walk.proofs.Starting.{walks}
 use Rattle.walk.proofs.walk.Goals as goal
 

@@ -1,3 +1,5 @@
+-- `with_ports::check_list_with_ports` meets its contract: the line check on the area, and the ports on the area after it.
+-- Rests on WithPorts.
 use Rattle.std.proofs.Common.{ap}
 use Rattle.paper.specs.Intervals.{Reply}
 use Rattle.paper.specs.Walk.{line_check}

@@ -1,3 +1,5 @@
+-- `with_ports::check_order_with_ports` meets its contract: the order check on the area, and the ports on the area after it.
+-- Rests on WithPorts.
 use Rattle.std.proofs.Common.{ap}
 use Rattle.paper.specs.Intervals.{Reply}
 use Rattle.paper.specs.OrderCheck.{order_check}

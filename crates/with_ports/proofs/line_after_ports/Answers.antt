@@ -1,3 +1,5 @@
+-- `with_ports::line_after_ports` meets its contract: each case of what the ports come to is afterPorts' own.
+-- Assumes nothing.
 use Rattle.std.proofs.Common.{ap, sym}
 use Rattle.paper.specs.Intervals.{Reply}
 use Rattle.port_conflict.specs.Said.{ports_said}

@@ -1,3 +1,5 @@
+-- `wording::put_answers` meets its contract: four texts one after the other; there is room for each.
+-- Rests on text's Printed.
 use Rattle.std.proofs.Common.{arith}
 use Rattle.text.proofs.Printed.{put_then, line-short}
 use Rattle.answers.specs.Said.{line_said}

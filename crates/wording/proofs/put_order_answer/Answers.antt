@@ -1,3 +1,5 @@
+-- `wording::put_order_answer` meets its contract: each answer is shown as paper shows what it says.
+-- Rests on Texts.
 use Rattle.std.proofs.Common.{ap, ap₂, sym, ◌∙◌}
 use Rattle.paper.specs.Text.{show_refused, show_order}
 use Rattle.answers.specs.declared.TopoAnswer.{TopoAnswer}

@@ -1,3 +1,5 @@
+-- `wording::put_unprepared` meets its contract: a refusal has its number and place, and a prepared map puts nothing.
+-- Rests on Texts.
 use Rattle.std.proofs.Common.{ap, ap₂, refl, sym, ℕ, ◌∙◌}
 use Rattle.paper.specs.Refusals.{refused}
 use Rattle.answers.specs.declared.Prepared.{Prepared}

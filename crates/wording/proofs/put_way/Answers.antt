@@ -1,3 +1,5 @@
+-- `wording::put_way` meets its contract: each answer is shown as paper shows it, a path by the words in which its steps stand.
+-- Rests on Texts.
 use Rattle.std.proofs.Common.{ap, ap₂, arith, rules, sym, ◌∙◌}
 use Rattle.paper.specs.Text.{show_refused, show_way}
 use Rattle.text.proofs.Printed.{refused_short}

@@ -1,4 +1,6 @@
-use Rattle.std.proofs.Common.{arith, below_more, below_none, get_or, ltb, true, ◌+◌}
+-- `acceptance::entries::entries_below` meets its contract: the entries passed are below the bound, and the first that is not decides.
+-- Rests on Starts and lists.AllAny.
+use Rattle.std.proofs.Common.{arith, below_more, below_none, get_or, ltb, ◌+◌}
 use Rattle.lists.proofs.AllAny.{all_through}
 use Rattle.acceptance.proofs.Starts.{entry-high, entry-low}
 use Rattle.acceptance.proofs.entries.entries_below.Goals as goal

@@ -1,4 +1,6 @@
-use Rattle.std.proofs.Common.{arith, below_more, below_none, true}
+-- `acceptance::entries::starts_well` meets its contract: the starts passed rise, and the first that does not decides.
+-- Rests on Starts.
+use Rattle.std.proofs.Common.{arith, below_more, below_none}
 use Rattle.acceptance.proofs.Starts.{starts-late, starts_fall, starts_rise, starts-end}
 use Rattle.acceptance.proofs.entries.starts_well.Goals as goal
 

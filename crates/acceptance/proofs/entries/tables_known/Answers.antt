@@ -1,3 +1,5 @@
+-- `acceptance::entries::tables_known` meets its contract: each test says one sentence, and together they say all four.
+-- Rests on Known.
 use Rattle.std.proofs.Common.{ap, not}
 use Rattle.agreement.specs.Tables.{entry_count, node_start, line_start}
 use Rattle.acceptance.proofs.Known.{starts-told, entries-told, node-starts_bad, line-starts_bad, lines_bad, all_known}

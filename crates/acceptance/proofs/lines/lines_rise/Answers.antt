@@ -1,3 +1,5 @@
+-- `acceptance::lines::lines_rise` meets its contract: each line is lent between two line starts, and the first that does not rise decides.
+-- Rests on agreement.Line.
 use Rattle.std.proofs.Common.{ap, arith, below_none, length, not, rules, ◌+◌, ◌<◌, ◌≤◌}
 use Rattle.agreement.proofs.Line.{rises, inside, line-placed, falls, rise_on, start_fits, all_rise}
 use Rattle.acceptance.proofs.lines.lines_rise.Goals as goal

@@ -1,3 +1,5 @@
+-- `acceptance::lines::rises_along` meets its contract: the positions passed rise, and the first that does not decides.
+-- Rests on Rises.
 use Rattle.std.proofs.Common.{arith, get_or, length, ◌-◌, ◌<◌}
 use Rattle.acceptance.proofs.Rises.{fall, rise, rose}
 use Rattle.acceptance.proofs.lines.rises_along.Goals as goal

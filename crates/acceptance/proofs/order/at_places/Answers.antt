@@ -1,4 +1,6 @@
-use Rattle.std.proofs.Common.{arith, below_more, below_none, length, true, ◌<◌}
+-- `acceptance::order::at_places` meets its contract: the words passed stand at their kept places, and the first that does not decides.
+-- Rests on Places and lists.AllAny.
+use Rattle.std.proofs.Common.{arith, below_more, below_none, length, ◌<◌}
 use Rattle.lists.proofs.AllAny.{all_through}
 use Rattle.acceptance.specs.Places.{at_place}
 use Rattle.acceptance.proofs.Places.{place_differs, place_same}

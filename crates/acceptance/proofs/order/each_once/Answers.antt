@@ -1,3 +1,5 @@
+-- `acceptance::order::each_once` meets its contract: no stray word, and each at its kept place.
+-- Rests on Places.
 use Rattle.std.proofs.Common.{T, ap, arith, not, subst, sym}
 use Rattle.lists.proofs.Tests.{says_no_lem, holds}
 use Rattle.acceptance.proofs.Places.{unknown_not_once, places_known, all_at_places}

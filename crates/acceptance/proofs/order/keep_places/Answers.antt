@@ -1,3 +1,5 @@
+-- `acceptance::order::keep_places` meets its contract: of the words passed the last places are kept.
+-- Rests on Places.
 use Rattle.std.proofs.Common.{arith, length-set, refl, ◌∙◌}
 use Rattle.acceptance.proofs.Places.{kept-none, kept_next, all-kept, strays}
 use Rattle.acceptance.proofs.order.keep_places.Goals as goal

@@ -1,4 +1,6 @@
-use Rattle.std.proofs.Common.{arith, below_more, below_none, get_or, length, ltb, true, ◌<◌}
+-- `acceptance::order::links_forward` meets its contract: the links passed go forward, and the first that does not decides.
+-- Rests on Places and lists.AllAny.
+use Rattle.std.proofs.Common.{arith, below_more, below_none, get_or, length, ltb, ◌<◌}
 use Rattle.lists.proofs.AllAny.{all_through}
 use Rattle.paper.specs.Map.{link_from, link_to}
 use Rattle.acceptance.proofs.Places.{link-back, link-ahead}

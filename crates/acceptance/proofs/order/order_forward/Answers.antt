@@ -1,3 +1,5 @@
+-- `acceptance::order::order_forward` meets its contract: the order is lent as a part of the area, and the kept places are places in it.
+-- Rests on Ordering.
 use Rattle.std.proofs.Common.{ap, arith, not}
 use Rattle.acceptance.proofs.Ordering.{linking, not_once, ordered}
 use Rattle.acceptance.proofs.order.order_forward.Goals as goal

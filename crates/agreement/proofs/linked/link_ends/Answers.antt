@@ -1,3 +1,5 @@
+-- `agreement::linked::link_ends` meets its contract: the ends of the links passed stand at the fronts.
+-- Rests on Laying.
 use Rattle.std.proofs.Common.{arith, length-set, ℕ, ◌∙◌}
 use lib.Seq.{sets}
 use Rattle.paper.specs.Map.{link_from, link_to}

@@ -1,3 +1,5 @@
+-- `agreement::linked::links_agree` meets its contract: the rooms are large enough.
+-- Rests on nothing but the rooms' sizes.
 use Rattle.std.proofs.Common.{arith}
 use Rattle.agreement.proofs.linked.links_agree.Goals as goal
 

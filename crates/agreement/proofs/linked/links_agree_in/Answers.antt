@@ -1,3 +1,5 @@
+-- `agreement::linked::links_agree_in` meets its contract: links and neighbours, grouped by the node that they start at, are compared.
+-- Rests on Matched.
 use Rattle.std.proofs.Common.{arith, ◌∙◌}
 use Rattle.agreement.proofs.Matched.{links_grouping, pairs_grouping, links_matching, links-told}
 use Rattle.agreement.proofs.linked.links_agree_in.Goals as goal

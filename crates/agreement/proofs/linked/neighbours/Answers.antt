@@ -1,3 +1,5 @@
+-- `agreement::linked::neighbours` meets its contract: the neighbours on the lines passed stand at the fronts.
+-- Rests on Line.
 use Rattle.std.proofs.Common.{arith, length, refl, rules, ℕ, ◌+◌, ◌<◌, ◌∙◌, ◌≤◌}
 use mathlib.Core.List.{flat_map}
 use lib.Seq.{sets}

@@ -1,3 +1,5 @@
+-- `agreement::listed::line_numbers` meets its contract: the numbers of the lines passed stand at the front.
+-- Rests on Line.
 use Rattle.std.proofs.Common.{arith, refl, ℕ, ◌∙◌}
 use mathlib.Core.List.{flat_map}
 use lib.Seq.{sets}

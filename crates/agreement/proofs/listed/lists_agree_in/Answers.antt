@@ -1,3 +1,5 @@
+-- `agreement::listed::lists_agree_in` meets its contract: what is grouped by node is compared with the nodes' own lists.
+-- Rests on Matched.
 use Rattle.std.proofs.Common.{arith, ◌∙◌}
 use Rattle.agreement.proofs.Matched.{lists_grouping, lists_matching, lists-told}
 use Rattle.agreement.proofs.listed.lists_agree_in.Goals as goal

@@ -1,3 +1,5 @@
+-- `agreement::listed::put_in` meets its contract: after i turns the first i words are put.
+-- Rests on Laying.
 use Rattle.std.proofs.Common.{arith, length-set, ◌+◌, ◌∙◌}
 use Rattle.agreement.proofs.Laying.{put_next, all-put}
 use Rattle.agreement.proofs.listed.put_in.Goals as goal

@@ -1,3 +1,5 @@
+-- `back_path::showing::lay` meets its contract: the links of one direction stand behind those of the other.
+-- Rests on Listing.
 use Rattle.back_path.proofs.Listing.{free, room-behind, searched}
 use Rattle.back_path.proofs.showing.lay.Goals as goal
 

@@ -1,3 +1,5 @@
+-- `back_path::showing::show_listed` meets its contract: the links laid, the list marked, the way back closed, and the path written or refused.
+-- Rests on Listing and distances' Reaching.
 use Rattle.std.proofs.Common.{arith}
 use Rattle.distances.proofs.Reaching.{begins}
 use Rattle.back_path.proofs.Listing.{to-mark, standing, sourced, near, end_known, end_way, shows_none, shows_long, shows_path}

@@ -1,3 +1,5 @@
+-- `back_path::showing::show_path_of_list` meets its contract: 8, 9 and 10 from taking the list in, then the path of its nodes.
+-- Rests on Listing and take_in's ListTaken.
 use Rattle.tables.proofs.Usable.{still_usable}
 use Rattle.take_in.proofs.ListTaken.{taken-kept, not_taken, list_refused_into, all-taken, listed}
 use Rattle.back_path.proofs.Listing.{list_shows}

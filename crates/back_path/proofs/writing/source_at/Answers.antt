@@ -1,3 +1,5 @@
+-- `back_path::writing::source_at` meets its contract: a read of the link, and of its start.
+-- Rests on neighbours' Reading.
 use Rattle.std.proofs.Common.{arith, ◌∙◌}
 use Rattle.neighbours.proofs.Reading.{has_listed, source_is}
 use Rattle.back_path.proofs.writing.source_at.Goals as goal

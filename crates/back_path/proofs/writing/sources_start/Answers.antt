@@ -1,3 +1,5 @@
+-- `back_path::writing::sources_start` meets its contract: two reads, the second at the place that the first gives.
+-- Rests on neighbours' Reading.
 use Rattle.std.proofs.Common.{◌∙◌}
 use Rattle.neighbours.proofs.Reading.{start-inside, in_start_lem}
 use Rattle.back_path.proofs.writing.sources_start.Goals as goal

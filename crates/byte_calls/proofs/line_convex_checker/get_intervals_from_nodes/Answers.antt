@@ -1,3 +1,5 @@
+-- `byte_calls::line_convex_checker::get_intervals_from_nodes` meets its contract: an opening's refusal passed up, or the list's intervals are found on the opened area.
+-- Rests on opening's Using and calling's LineCalls, and Buffers.
 use Rattle.std.proofs.Common.{arith}
 use Rattle.opening.proofs.Using.{is_refusal, usable, has-scratch}
 use Rattle.calling.proofs.LineCalls.{intervals_refused, intervals_answered}

@@ -1,3 +1,5 @@
+-- `byte_calls::line_convex_checker::is_convex` meets its contract: an opening's refusal passed up, or list and ports are checked on the opened area.
+-- Rests on opening's Using and calling's TopoCalls.
 use Rattle.opening.proofs.Using.{is_refusal, usable, has-scratch}
 use Rattle.calling.proofs.TopoCalls.{line-ports_refused, line-ports_answered}
 use Rattle.byte_calls.proofs.line_convex_checker.is_convex.Goals as goal

@@ -1,3 +1,5 @@
+-- `byte_calls::line_convex_checker::is_node_convex` meets its contract: an opening's refusal passed up, or the list is checked on the opened area.
+-- Rests on opening's Using and calling's LineCalls.
 use Rattle.opening.proofs.Using.{is_refusal, usable, has-scratch}
 use Rattle.calling.proofs.LineCalls.{line_refused, line_answered}
 use Rattle.byte_calls.proofs.line_convex_checker.is_node_convex.Goals as goal

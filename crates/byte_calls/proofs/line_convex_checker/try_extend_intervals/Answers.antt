@@ -1,3 +1,5 @@
+-- `byte_calls::line_convex_checker::try_extend_intervals` meets its contract: an opening's refusal passed up, or the records are extended on the opened area.
+-- Rests on opening's Using and calling's LineCalls, and Buffers.
 use Rattle.std.proofs.Common.{arith}
 use Rattle.opening.proofs.Using.{is_refusal, usable, has-scratch}
 use Rattle.calling.proofs.LineCalls.{extend_refused, extend_answered}

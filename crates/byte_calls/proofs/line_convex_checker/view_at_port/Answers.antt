@@ -1,3 +1,5 @@
+-- `byte_calls::line_convex_checker::view_at_port` meets its contract: a refusal, or where the port's lines start in the area.
+-- Rests on opening's Using and calling's ViewCalls.
 use Rattle.opening.proofs.Using.{is_refusal, usable-before}
 use Rattle.calling.proofs.ViewCalls.{opened, view_refused, view_unknown, view_answered}
 use Rattle.byte_calls.proofs.line_convex_checker.view_at_port.Goals as goal

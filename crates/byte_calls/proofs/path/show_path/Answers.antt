@@ -1,3 +1,5 @@
+-- `byte_calls::path::show_path` meets its contract: an opening's refusal passed up, or the path is shown on the opened area.
+-- Rests on opening's Using and calling's PathCalls, and Buffers.
 use Rattle.std.proofs.Common.{arith}
 use Rattle.opening.proofs.Using.{is_refusal, usable, has-scratch}
 use Rattle.calling.proofs.PathCalls.{path_refused, path_answered}

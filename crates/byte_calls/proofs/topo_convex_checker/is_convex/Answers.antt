@@ -1,3 +1,5 @@
+-- `byte_calls::topo_convex_checker::is_convex` meets its contract: an opening's refusal passed up, or list and ports are checked on the opened area.
+-- Rests on opening's Using and calling's TopoCalls.
 use Rattle.opening.proofs.Using.{is_refusal, usable, has-scratch}
 use Rattle.calling.proofs.TopoCalls.{order-ports_refused, order-ports_answered}
 use Rattle.byte_calls.proofs.topo_convex_checker.is_convex.Goals as goal

@@ -1,3 +1,5 @@
+-- `byte_calls::topo_convex_checker::is_node_convex` meets its contract: an opening's refusal passed up, or the list is checked on the opened area.
+-- Rests on opening's Using and calling's TopoCalls.
 use Rattle.opening.proofs.Using.{is_refusal, usable, has-scratch}
 use Rattle.calling.proofs.TopoCalls.{order_refused, order_answered}
 use Rattle.byte_calls.proofs.topo_convex_checker.is_node_convex.Goals as goal

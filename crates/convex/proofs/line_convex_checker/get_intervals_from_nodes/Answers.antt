@@ -1,3 +1,5 @@
+-- `convex::line_convex_checker::get_intervals_from_nodes` meets its contract: an opening's refusal passed up, or the list's intervals are found on the opened area.
+-- Rests on opening's Using and calling's LineCalls.
 use Rattle.opening.proofs.Using.{is_refusal, usable, has-scratch}
 use Rattle.calling.proofs.LineCalls.{intervals_refused, intervals_answered}
 use Rattle.convex.proofs.line_convex_checker.get_intervals_from_nodes.Goals as goal

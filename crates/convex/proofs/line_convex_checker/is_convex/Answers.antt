@@ -1,3 +1,5 @@
+-- `convex::line_convex_checker::is_convex` meets its contract: an opening's refusal passed up, or list and ports are checked on the opened area;
+-- and its answer keeps demand 3's promise. Rests on opening's Using, calling's TopoCalls and Promises.
 use Rattle.opening.proofs.Using.{is_refusal, usable, has-scratch}
 use Rattle.convex.proofs.Promises.{line-ports-kept}
 use Rattle.calling.proofs.TopoCalls.{line-ports_refused, line-ports_answered}

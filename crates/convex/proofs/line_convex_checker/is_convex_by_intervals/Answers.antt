@@ -1,3 +1,5 @@
+-- `convex::line_convex_checker::is_convex_by_intervals` meets its contract: an opening's refusal passed up, or the records are checked on the opened area.
+-- Rests on opening's Using and calling's LineCalls.
 use Rattle.opening.proofs.Using.{is_refusal, usable, has-scratch}
 use Rattle.calling.proofs.LineCalls.{by_records_refused, by_records_answered}
 use Rattle.convex.proofs.line_convex_checker.is_convex_by_intervals.Goals as goal

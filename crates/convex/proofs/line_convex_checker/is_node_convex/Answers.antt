@@ -1,3 +1,5 @@
+-- `convex::line_convex_checker::is_node_convex` meets its contract: an opening's refusal passed up, or the list is checked on the opened area;
+-- and its answer keeps demand 3's promise. Rests on opening's Using, calling's LineCalls and Promises.
 use Rattle.opening.proofs.Using.{is_refusal, usable, has-scratch}
 use Rattle.calling.proofs.LineCalls.{line_refused, line_answered}
 use Rattle.convex.proofs.Promises.{line_kept}

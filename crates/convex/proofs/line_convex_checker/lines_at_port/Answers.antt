@@ -1,3 +1,5 @@
+-- `convex::line_convex_checker::lines_at_port` meets its contract: 14 of the port, and its lines by counting links.
+-- Rests on opening's Using and calling's LineCalls.
 use Rattle.std.proofs.Common.{rules}
 use Rattle.opening.proofs.Using.{is_refusal, usable-before}
 use Rattle.calling.proofs.LineCalls.{port_refused, port_unknown, port_answered}

@@ -1,3 +1,5 @@
+-- `convex::line_convex_checker::nodes_in_intervals` meets its contract: an opening's refusal passed up, or the nodes are found on the opened area.
+-- Rests on opening's Using and calling's LineCalls.
 use Rattle.opening.proofs.Using.{is_refusal, usable, has-scratch}
 use Rattle.calling.proofs.LineCalls.{nodes_refused, nodes_answered}
 use Rattle.convex.proofs.line_convex_checker.nodes_in_intervals.Goals as goal

@@ -1,3 +1,6 @@
+-- `convex::line_convex_checker::view_lines_at_port` meets its contract: a part of no words on a refusal, else the part that holds the lines; and
+-- where it starts.
+-- Rests on opening's Using and calling's ViewCalls.
 use Rattle.std.proofs.Common.{arith, refl, rules, ◌∙◌}
 use Rattle.opening.proofs.Using.{is_refusal, usable-before}
 use Rattle.calling.proofs.ViewCalls.{opened, part_refused, part_unknown, part_answered, view_words, view-place}

@@ -1,3 +1,5 @@
+-- `convex::path::show_path` meets its contract: an opening's refusal passed up, or the path is shown on the opened area; and its answer and buffer
+-- keep the promise. Rests on opening's Using, calling's PathCalls and Promises.
 use Rattle.opening.proofs.Using.{is_refusal, usable, has-scratch}
 use Rattle.calling.proofs.PathCalls.{path_refused, path_answered}
 use Rattle.convex.proofs.Promises.{path-kept}

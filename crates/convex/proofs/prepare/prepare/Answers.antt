@@ -1,3 +1,5 @@
+-- `convex::prepare::prepare` meets its contract: the ordering's refusal passed up, or the lines laid from the order.
+-- Rests on Preparing and toposort's Sizing.
 use Rattle.toposort.proofs.Sizing.{is_refusal}
 use Rattle.convex.proofs.Preparing.{refused_up, lines-ready, lines-laid}
 use Rattle.convex.proofs.prepare.prepare.Goals as goal

@@ -1,3 +1,5 @@
+-- `convex::topo_convex_checker::is_node_convex` meets its contract: an opening's refusal passed up, or the list is checked on the opened area;
+-- and its answer keeps demand 3's promise. Rests on opening's Using, calling's TopoCalls and Promises.
 use Rattle.opening.proofs.Using.{is_refusal, usable, has-scratch}
 use Rattle.convex.proofs.Promises.{order-kept}
 use Rattle.calling.proofs.TopoCalls.{order_refused, order_answered}

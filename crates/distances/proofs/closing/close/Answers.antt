@@ -1,3 +1,5 @@
+-- `distances::closing::close` meets its contract: after d rounds no distance up to d has closed.
+-- Rests on Open.
 use Rattle.std.proofs.Common.{arith, ◌∙◌}
 use Rattle.tables.proofs.Within.{within_both}
 use Rattle.distances.proofs.Joining.{joins_rise}

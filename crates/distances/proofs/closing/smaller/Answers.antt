@@ -1,3 +1,5 @@
+-- `distances::closing::smaller` meets its contract: a law for each return.
+-- Rests on Smallest.
 use Rattle.distances.proofs.Smallest.{smaller_of_none, smaller-new, smaller_old}
 use Rattle.distances.proofs.closing.smaller.Goals as goal
 

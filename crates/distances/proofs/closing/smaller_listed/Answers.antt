@@ -1,3 +1,5 @@
+-- `distances::closing::smaller_listed` meets its contract: the mark and distance 0 tell that a node is listed.
+-- Rests on Smallest.
 use Rattle.distances.specs.Smallest.{smallest_said}
 use Rattle.distances.proofs.Smallest.{with_listed, without-listed}
 use Rattle.distances.proofs.closing.smaller_listed.Goals as goal

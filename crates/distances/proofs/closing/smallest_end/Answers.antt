@@ -1,3 +1,5 @@
+-- `distances::closing::smallest_end` meets its contract: before place t the smallest listed step that a node before it is linked to is found.
+-- Rests on Seeking.
 use Rattle.std.proofs.Common.{arith}
 use Rattle.distances.proofs.Seeking.{nodes-none, nodes_more, nodes-all}
 use Rattle.distances.proofs.Passing.{place_inside, place-known}

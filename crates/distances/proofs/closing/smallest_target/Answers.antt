@@ -1,3 +1,5 @@
+-- `distances::closing::smallest_target` meets its contract: before link i the smallest of the listed targets before it is found.
+-- Rests on Passing and Seeking.
 use Rattle.std.proofs.Common.{arith}
 use Rattle.neighbours.proofs.Passing.{targets_rise, link-known, target_below}
 use Rattle.distances.specs.Smallest.{smallest_said}

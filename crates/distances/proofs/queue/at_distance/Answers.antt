@@ -1,3 +1,5 @@
+-- `distances::queue::at_distance` meets its contract: a node without mark was not met, of another the distance tells.
+-- Rests on Marking.
 use Rattle.distances.proofs.Marking.{tells_unmarked, tells-marked}
 use Rattle.distances.proofs.queue.at_distance.Goals as goal
 

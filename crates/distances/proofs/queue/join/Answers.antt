@@ -1,3 +1,5 @@
+-- `distances::queue::join` meets its contract: a marked node is left out, another is marked with its distance and appended.
+-- Rests on Joining.
 use Rattle.std.proofs.Common.{arith, length-set}
 use Rattle.distances.proofs.Joining.{join_again, join-fits, join-once}
 use Rattle.distances.proofs.queue.join.Goals as goal

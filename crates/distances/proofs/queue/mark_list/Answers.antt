@@ -1,3 +1,5 @@
+-- `distances::queue::mark_list` meets its contract: before node i of the list those before it are marked.
+-- Rests on Marking.
 use Rattle.std.proofs.Common.{arith, rules}
 use Rattle.distances.proofs.Marking.{still_listed, marking_starts, listed-inside, mark-inside, marking_next, list-marked}
 use Rattle.distances.proofs.queue.mark_list.Goals as goal

@@ -1,3 +1,5 @@
+-- `distances::rounds::join_targets` meets its contract: before link i the targets of the links before it have joined.
+-- Rests on Passing and Rounding.
 use Rattle.std.proofs.Common.{arith}
 use Rattle.neighbours.proofs.Passing.{targets_rise, link-known, target_below, all-targets}
 use Rattle.distances.proofs.Rounding.{links-start, links-next}

@@ -1,3 +1,5 @@
+-- `distances::rounds::round` meets its contract: before place t what the nodes before it are linked to has joined.
+-- Rests on Rounding.
 use Rattle.std.proofs.Common.{arith}
 use Rattle.lists.proofs.Upto.{at_the_end}
 use Rattle.distances.specs.Reached.{targets_in}

@@ -1,3 +1,5 @@
+-- `extension::grow::comes_next` meets its contract: the line ends, or its next node's position is compared.
+-- Rests on Next.
 use Rattle.std.proofs.Common.{arith, length, ◌<◌}
 use Rattle.extension.proofs.Next.{line-end, node-there, node-next}
 use Rattle.extension.proofs.grow.comes_next.Goals as goal

@@ -1,4 +1,6 @@
-use Rattle.std.proofs.Common.{List, ap, arith, get_or, not, ℕ, ◌*◌, ◌+◌, ◌<◌, ◌≡◌}
+-- `extension::grow::grow_record` meets its contract: each return is one of 01's cases, below, above or inside.
+-- Rests on Growing.
+use Rattle.std.proofs.Common.{List, ap, get_or, not, ℕ, ◌*◌, ◌+◌, ◌≡◌}
 use Rattle.lookup.specs.Line.{positions_on}
 use Rattle.extension.proofs.Growing.{high-here, below_not, below_next, above_not, above-next, inside}
 use Rattle.extension.proofs.grow.grow_record.Goals as goal

@@ -1,3 +1,5 @@
+-- `extension::grow::put_record` meets its contract: three words make the record, and no other word changes.
+-- Rests on Putting.
 use Rattle.std.proofs.Common.{arith, length-set, ◌*◌}
 use Rattle.extension.proofs.Putting.{record_put}
 use Rattle.extension.proofs.grow.put_record.Goals as goal

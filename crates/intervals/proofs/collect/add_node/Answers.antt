@@ -1,3 +1,5 @@
+-- `intervals::collect::add_node` meets its contract: before entry e the position is added to the lines before it.
+-- Rests on Node.
 use Rattle.std.proofs.Common.{arith}
 use Rattle.intervals.proofs.Node.{node-first, line-inside, can_add, node-on, node_done}
 use Rattle.intervals.proofs.collect.add_node.Goals as goal

@@ -1,3 +1,5 @@
+-- `intervals::collect::add_nodes` meets its contract: before turn i the positions of the first i nodes are added.
+-- Rests on Nodes.
 use Rattle.std.proofs.Common.{arith}
 use Rattle.intervals.proofs.Nodes.{nodes-first, node-inside, can_add-node, nodes-on, nodes_done}
 use Rattle.intervals.proofs.collect.add_nodes.Goals as goal

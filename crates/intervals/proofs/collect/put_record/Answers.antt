@@ -1,3 +1,5 @@
+-- `intervals::collect::put_record` meets its contract: three stores are one record.
+-- Rests on Buffer.
 use Rattle.std.proofs.Common.{arith, length-set}
 use Rattle.intervals.proofs.Buffer.{put_is}
 use Rattle.intervals.proofs.collect.put_record.Goals as goal

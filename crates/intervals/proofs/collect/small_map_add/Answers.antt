@@ -1,3 +1,5 @@
+-- `intervals::collect::small_map_add` meets its contract: a line with count 0 gets the next record, any other its own widened.
+-- Rests on Adding.
 use Rattle.std.proofs.Common.{arith, length-set}
 use Rattle.intervals.proofs.Adding.{fresh-room, fresh-became, there-room, there-became}
 use Rattle.intervals.proofs.collect.small_map_add.Goals as goal

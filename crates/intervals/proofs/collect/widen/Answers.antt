@@ -1,3 +1,5 @@
+-- `intervals::collect::widen` meets its contract: the smaller and the larger position are the widened record's.
+-- Rests on Buffer.
 use Rattle.intervals.proofs.Buffer.{widened_is}
 use Rattle.intervals.proofs.collect.widen.Goals as goal
 

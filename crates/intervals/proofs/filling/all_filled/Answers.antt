@@ -1,4 +1,6 @@
-use Rattle.std.proofs.Common.{arith, below_more, sym, true, ◌∙◌}
+-- `intervals::filling::all_filled` meets its contract: before turn i the first i records are filled.
+-- Rests on lists' AllAny.
+use Rattle.std.proofs.Common.{arith, below_more, sym, ◌∙◌}
 use Rattle.lists.proofs.AllAny.{all_false, all_through}
 use Rattle.intervals.specs.Filling.{fills_record}
 use Rattle.intervals.proofs.filling.all_filled.Goals as goal

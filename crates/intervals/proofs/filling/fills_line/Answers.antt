@@ -1,3 +1,5 @@
+-- `intervals::filling::fills_line` meets its contract: the lowest is found on the line, and the last node's position is read.
+-- Rests on Testing and lookup's Following.
 use Rattle.std.proofs.Common.{ap, arith, sym, ◌∙◌, ◌≡◌}
 use Rattle.lists.specs.Found.{at}
 use Rattle.paper.specs.Lookup.{lookup}

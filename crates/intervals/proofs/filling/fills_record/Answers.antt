@@ -1,3 +1,5 @@
+-- `intervals::filling::fills_record` meets its contract: the record's line and the positions are handed on as parts of the area.
+-- Rests on Testing.
 use Rattle.intervals.proofs.Testing.{count-inside, line-span, given, record_tested}
 use Rattle.intervals.proofs.filling.fills_record.Goals as goal
 

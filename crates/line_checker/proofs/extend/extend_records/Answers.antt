@@ -1,3 +1,5 @@
+-- `line_checker::extend::extend_records` meets its contract: the records extended go from the room into their buffer.
+-- Rests on ExtendFound and Out.
 use Rattle.std.proofs.Common.{ap, arith, rules}
 use Rattle.answers.specs.Said.{extend_said}
 use Rattle.line_checker.proofs.ExtendFound.{not_made}

@@ -1,3 +1,5 @@
+-- `line_checker::extend::find_extended` meets its contract: 9, 12 and 13 on the area, then the extension on the area after the test.
+-- Rests on ExtendFound and records' Testing.
 use Rattle.std.proofs.Common.{ap, sym}
 use Rattle.paper.specs.Refusals.{answered}
 use Rattle.extension.specs.Extended.{extended_said}

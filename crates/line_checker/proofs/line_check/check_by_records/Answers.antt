@@ -1,3 +1,5 @@
+-- `line_checker::line_check::check_by_records` meets its contract: 8, 12 and 13 on the area, then the walk on the area after the test.
+-- Rests on RecordCalls and records' Testing.
 use Rattle.std.proofs.Common.{ap}
 use Rattle.records.specs.Tested.{checked_said}
 use Rattle.records.proofs.Slots.{slots_room}

@@ -1,3 +1,5 @@
+-- `line_checker::line_check::check_list_bytes` meets its contract: the list is taken in from bytes, and then checked.
+-- Rests on LineCheck and FromList.
 use Rattle.tables.proofs.Usable.{still_usable}
 use Rattle.line_checker.proofs.FromList.{list-kept, stands-taken}
 use Rattle.line_checker.proofs.LineCheck.{list_checked}

@@ -1,3 +1,5 @@
+-- `line_checker::line_check::check_listed` meets its contract: the intervals of the nodes in the scratch, and the walk on their records.
+-- Rests on LineCheck.
 use Rattle.std.proofs.Common.{arith}
 use Rattle.tables.proofs.Usable.{still_usable}
 use Rattle.line_checker.proofs.LineCheck.{gap_answered, recorded, walk_answered}

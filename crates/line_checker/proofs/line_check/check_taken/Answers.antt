@@ -1,3 +1,5 @@
+-- `line_checker::line_check::check_taken` meets its contract: 8, 9 and 10 as taking the list in says, then the check of its nodes.
+-- Rests on LineCheck and take_in's ListTaken.
 use Rattle.take_in.proofs.ListTaken.{not_taken}
 use Rattle.line_checker.proofs.LineCheck.{not_checked, taken_checked}
 use Rattle.line_checker.proofs.line_check.check_taken.Goals as goal

@@ -1,3 +1,5 @@
+-- `line_checker::line_check::walk_answer` meets its contract: reply and count stay.
+-- Assumes nothing.
 use Rattle.std.proofs.Common.{ap, sym, ℕ, ◌≡◌}
 use Rattle.paper.specs.Intervals.{Reply}
 use Rattle.paper.specs.Refusals.{Answer, answered}

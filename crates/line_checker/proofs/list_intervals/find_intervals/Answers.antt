@@ -1,3 +1,5 @@
+-- `line_checker::list_intervals::find_intervals` meets its contract: 9 and 10 as taking the list in says, then the intervals of its nodes.
+-- Rests on IntervalsFound and take_in's ListTaken.
 use Rattle.std.proofs.Common.{ap, sym}
 use Rattle.paper.specs.Refusals.{answered}
 use Rattle.intervals.specs.Answer.{intervals_said}

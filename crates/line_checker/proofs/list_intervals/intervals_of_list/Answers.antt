@@ -1,3 +1,5 @@
+-- `line_checker::list_intervals::intervals_of_list` meets its contract: no records for no nodes; else its intervals go from the room into the buffer.
+-- Rests on IntervalsFound and Out.
 use Rattle.std.proofs.Common.{ap, arith, rules}
 use Rattle.answers.specs.Said.{intervals_said}
 use Rattle.tables.proofs.Usable.{still_usable}

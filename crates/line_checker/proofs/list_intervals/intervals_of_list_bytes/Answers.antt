@@ -1,3 +1,5 @@
+-- `line_checker::list_intervals::intervals_of_list_bytes` meets its contract: no records for no nodes; else its intervals go from the room into the bytes.
+-- Rests on IntervalsFound and Out.
 use Rattle.std.proofs.Common.{ap, arith, sym, ◌*◌, ◌∙◌}
 use Rattle.paper.specs.Words.{words_from}
 use Rattle.answers.specs.Said.{intervals_said}

@@ -1,3 +1,5 @@
+-- `line_checker::nodes::find_nodes` meets its contract: 12 and 13 on the area, then the nodes on the area after the test.
+-- Rests on NodesFound and records' Testing.
 use Rattle.std.proofs.Common.{ap}
 use Rattle.records.specs.Tested.{checked_said}
 use Rattle.records.proofs.Slots.{slots_room}

@@ -1,3 +1,5 @@
+-- `line_checker::nodes::nodes_of_records` meets its contract: the nodes go from the room into the buffer.
+-- Rests on NodesFound and Out.
 use Rattle.std.proofs.Common.{ap, arith, rules}
 use Rattle.answers.specs.Said.{nodes_said}
 use Rattle.line_checker.proofs.NodesFound.{not_nodes}

@@ -1,3 +1,5 @@
+-- `line_checker::room::copy_out` meets its contract. The loop: the first i words stand in the target too, and the rest of it stands.
+-- Rests on lists.Sections.
 use Rattle.std.proofs.Common.{List, [], add-one, ap, arith, get_or, length, length-take-le, refl, rules, set, sym, take, take-suc, zero-add, ℕ, ◌+◌, ◌<◌, ◌∙◌, ◌∷◌, ◌≡◌}
 use lib.Seq.{sets}
 use Rattle.lists.proofs.Sections.{sets-next}

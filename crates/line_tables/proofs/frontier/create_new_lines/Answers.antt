@@ -1,3 +1,5 @@
+-- `line_tables::frontier::create_new_lines` meets its contract: after i words the first i new lines stand.
+-- Rests on Leaves.
 use Rattle.std.proofs.Common.{arith, refl, rules, ◌≡◌}
 use Rattle.line_tables.proofs.Leaves.{create_again}
 use Rattle.line_tables.proofs.frontier.create_new_lines.Goals as goal

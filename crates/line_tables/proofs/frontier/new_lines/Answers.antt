@@ -1,3 +1,5 @@
+-- `line_tables::frontier::new_lines` meets its contract, case by case.
+-- Rests on Leaves.
 use Rattle.line_tables.proofs.Leaves.{more_out, no_link, enough_taken}
 use Rattle.line_tables.proofs.frontier.new_lines.Goals as goal
 

@@ -1,3 +1,5 @@
+-- `line_tables::frontier::push_frontier` meets its contract.
+-- Rests on Leaves.
 use Rattle.std.proofs.Common.{arith, length-set}
 use Rattle.line_tables.proofs.Leaves.{push-written}
 use Rattle.line_tables.proofs.frontier.push_frontier.Goals as goal

@@ -1,3 +1,5 @@
+-- `line_tables::frontier::push_line` meets its contract: the port read is the link's.
+-- Rests on Leaves.
 use Rattle.line_tables.proofs.Leaves.{pushing, line-pushed}
 use Rattle.line_tables.proofs.frontier.push_line.Goals as goal
 

@@ -1,3 +1,5 @@
+-- `line_tables::frontier::push_lines` meets its contract: after i lines the area is as i lines pushed leave it.
+-- Rests on Leaves.
 use Rattle.std.proofs.Common.{[], arith, rules, ◌+◌, ◌≡◌}
 use Rattle.line_tables.proofs.Leaves.{long-pushed, step_pushed, none-pushed}
 use Rattle.line_tables.specs.Steps.{PushingLine}

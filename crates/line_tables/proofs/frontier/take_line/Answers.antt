@@ -1,3 +1,5 @@
+-- `line_tables::frontier::take_line` meets its contract: the port and the position read are the link's.
+-- Rests on Leaves.
 use Rattle.std.proofs.Common.{arith, ◌∙◌}
 use Rattle.line_tables.proofs.Leaves.{met-read, met-small, met-said, popping, line_taken_lem}
 use Rattle.line_tables.proofs.frontier.take_line.Goals as goal

@@ -1,3 +1,5 @@
+-- `line_tables::frontier::take_lines` meets its contract: after i lines the area is as i lines taken leave it.
+-- Rests on Leaves.
 use Rattle.std.proofs.Common.{arith, rules, ◌+◌, ◌≡◌}
 use Rattle.line_tables.proofs.Leaves.{long-taken, step-taken, step-position, none-taken, none-met}
 use Rattle.line_tables.specs.Steps.{TakingLine}

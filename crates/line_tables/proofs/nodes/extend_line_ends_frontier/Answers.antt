@@ -1,3 +1,5 @@
+-- `line_tables::nodes::extend_line_ends_frontier` meets its contract: a node is placed on its lines.
+-- Rests on Reading (what is read) and Placing (what is left).
 use Rattle.std.proofs.Common.{arith}
 use Rattle.line_tables.proofs.Placing.{is-new}
 use Rattle.line_tables.proofs.Placing.{new-fits, new-small, pushes_all, placed_over, placed-turned, count-placed}

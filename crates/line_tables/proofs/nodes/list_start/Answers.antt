@@ -1,3 +1,5 @@
+-- `line_tables::nodes::list_start` meets its contract: two reads, the second at the node that the first gives.
+-- Rests on nothing.
 use Rattle.std.proofs.Common.{ap, arith, get_or, ℕ, ◌+◌, ◌∙◌}
 use Rattle.line_tables.specs.Layout.{node_starts_at, lists_at}
 use Rattle.line_tables.proofs.nodes.list_start.Goals as goal

@@ -1,3 +1,5 @@
+-- `line_tables::nodes::place_nodes` meets its contract: after t nodes the frontier stands in the area as after t nodes of the order.
+-- Rests on Placing.
 use Rattle.std.proofs.Common.{arith, rules, subst, ℕ, ◌≡◌}
 use Rattle.line_tables.proofs.Placing.{no_lines}
 use Rattle.line_tables.proofs.Keeping.{over_itself, over_over}

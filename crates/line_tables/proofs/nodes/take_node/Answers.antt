@@ -1,3 +1,5 @@
+-- `line_tables::nodes::take_node` meets its contract: a node has its lines and its position.
+-- Rests on Reading and Placing.
 use Rattle.std.proofs.Common.{arith, length, refl, ◌+◌, ◌-◌, ◌≡◌}
 use Rattle.line_tables.proofs.Placing.{takes_all, long_after, node_seated}
 use Rattle.line_tables.proofs.Taking.{node-low}

@@ -1,3 +1,5 @@
+-- `line_tables::spread::node_starts` meets its contract: after v nodes the first v starts stand, and the sum of their widths.
+-- Rests on Widening.
 use Rattle.std.proofs.Common.{ap, arith, length, refl, rules, ◌≡◌}
 use Rattle.line_tables.proofs.Widening.{table-long, table_more, start_small, spaced_now, total-next, total-small, starts-next, no_width}
 use Rattle.line_tables.specs.Widths.{widths_before}

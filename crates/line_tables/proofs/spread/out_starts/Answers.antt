@@ -1,3 +1,5 @@
+-- `line_tables::spread::out_starts` meets its contract: after v nodes the first v starts stand.
+-- Rests on Widening.
 use Rattle.std.proofs.Common.{arith, refl, rules, ◌+◌, ◌≡◌}
 use Rattle.line_tables.proofs.Widening.{table-long, span-stands, from-small, from_more}
 use Rattle.line_tables.specs.Widths.{links_from}

@@ -1,3 +1,5 @@
+-- `line_tables::spread::spread` meets its contract: each step finds what the one before it left.
+-- Rests on Spreading.
 use Rattle.line_tables.proofs.Spreading.{roomy, tabled, starting, widths, spreads}
 use Rattle.line_tables.proofs.spread.spread.Goals as goal
 

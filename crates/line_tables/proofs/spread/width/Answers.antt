@@ -1,3 +1,5 @@
+-- `line_tables::spread::width` meets its contract.
+-- Rests on Widening.
 use Rattle.std.proofs.Common.{arith}
 use Rattle.line_tables.proofs.Widening.{width_small, width_is}
 use Rattle.line_tables.proofs.spread.width.Goals as goal

@@ -1,3 +1,5 @@
+-- `lookup::guess::guess` meets its contract: the product can be rounded, and the two moves are the definition's.
+-- Rests on Guessing.
 use Rattle.std.proofs.Common.{arith, ◌-◌}
 use Rattle.std.proofs.Common.{◌-◌, ◌^◌, arith, le→leb}
 use lib.Ieee.{in_float}

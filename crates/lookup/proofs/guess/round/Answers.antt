@@ -1,3 +1,5 @@
+-- `lookup::guess::round` meets its contract: the whole part, or one more where the half above it is reached.
+-- Rests on Rounding.
 use Rattle.std.proofs.Common.{arith, ◌*◌, ◌+◌}
 use Rattle.std.proofs.Common.{◌+◌, ◌*◌, ◌^◌, arith, le→leb}
 use lib.Ieee.{in_float}

@@ -1,3 +1,5 @@
+-- `neighbours::by_port::links_by_input` meets its contract: the keys that it writes are ports, and they are sorted.
+-- Rests on Sorted.
 use Rattle.paper.specs.Map.{target_port}
 use Rattle.order_theory.proofs.Refusals.{sound}
 use Rattle.neighbours.proofs.Writing.{target_below}

@@ -1,3 +1,5 @@
+-- `neighbours::by_port::links_by_output` meets its contract: the keys that it writes are ports, and they are sorted.
+-- Rests on Sorted.
 use Rattle.paper.specs.Map.{source_port}
 use Rattle.order_theory.proofs.Refusals.{sound}
 use Rattle.neighbours.proofs.Writing.{source-below}

@@ -1,3 +1,5 @@
+-- `neighbours::keys::target_keys` meets its contract: after k links the first k keys stand.
+-- Rests on Writing.
 use Rattle.std.proofs.Common.{arith, length, map, refl, rules, ◌*◌, ◌+◌, ◌<◌, ◌^◌, ◌∙◌, ◌≡◌}
 use lib.Seq.{sets}
 use Rattle.lists.specs.Lists.{upto}

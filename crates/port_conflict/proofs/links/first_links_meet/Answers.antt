@@ -1,3 +1,5 @@
+-- `port_conflict::links::first_links_meet` meets its contract: after k links an output's mark stands if none of them is at it.
+-- Rests on Passing.
 use Rattle.std.proofs.Common.{arith}
 use Rattle.port_conflict.proofs.Passing.{passing-starts, laid_still, pass_meets, pass_on, pass_ends}
 use Rattle.port_conflict.proofs.links.first_links_meet.Goals as goal

@@ -1,3 +1,5 @@
+-- `port_conflict::links::leads_to_input` meets its contract: one mark, then the other.
+-- Rests on Ends.
 use Rattle.port_conflict.proofs.Ends.{leads_nowhere, leads_by}
 use Rattle.port_conflict.proofs.links.leads_to_input.Goals as goal
 

@@ -1,3 +1,5 @@
+-- `port_conflict::links::pass_link` meets its contract: both ends have marks, and the marks are read before they are taken back.
+-- Rests on Ends.
 use Rattle.std.proofs.Common.{arith, lt-length-set}
 use Rattle.port_conflict.proofs.Ends.{EndsInside, ends-inside, meets-forward, meets_backward, meets_not}
 use Rattle.port_conflict.proofs.links.pass_link.Goals as goal

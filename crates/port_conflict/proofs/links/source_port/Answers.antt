@@ -1,3 +1,5 @@
+-- `port_conflict::links::source_port` meets its contract: first port, inputs and offset add up to the port, which is small.
+-- Rests on Ends.
 use Rattle.std.proofs.Common.{arith}
 use Rattle.port_conflict.proofs.Ends.{source_first, source_record, outputs-start, source_is, source-small}
 use Rattle.port_conflict.proofs.links.source_port.Goals as goal

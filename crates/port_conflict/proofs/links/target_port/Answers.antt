@@ -1,3 +1,5 @@
+-- `port_conflict::links::target_port` meets its contract: first port and offset add up to the port, which is small.
+-- Rests on Ends.
 use Rattle.std.proofs.Common.{arith}
 use Rattle.port_conflict.proofs.Ends.{target_first, target_is, target_small}
 use Rattle.port_conflict.proofs.links.target_port.Goals as goal

@@ -1,3 +1,5 @@
+-- `port_conflict::marks::mark_lists_bytes` meets its contract: 14 for the inputs, then for the outputs.
+-- Rests on Both.
 use Rattle.std.proofs.Common.{ap}
 use Rattle.port_conflict.specs.Said.{ports_said}
 use Rattle.port_conflict.proofs.Both.{unknown_input, then_outputs}

@@ -1,3 +1,5 @@
+-- `port_conflict::marks::mark_port` meets its contract: the test decides, and the one word is the port's mark.
+-- Rests on nothing but the test.
 use Rattle.std.proofs.Common.{arith, le-ltb, lt-ltb, refl, sym}
 use Rattle.port_conflict.proofs.marks.mark_port.Goals as goal
 

@@ -1,3 +1,5 @@
+-- `port_conflict::marks::mark_ports` meets its contract: after i entries none is unknown, and exactly they are marked.
+-- Rests on Marking.
 use Rattle.std.proofs.Common.{ap, arith, not}
 use Rattle.port_conflict.proofs.Marking.{marking_starts, marking_next, unknown_entry, all_known}
 use Rattle.port_conflict.proofs.marks.mark_ports.Goals as goal

@@ -1,3 +1,5 @@
+-- `port_conflict::marks::mark_ports_bytes` meets its contract: as mark_ports, with entry i read from the bytes.
+-- Rests on Marking, lists' Upto and words' Turns.
 use Rattle.std.proofs.Common.{ap, arith, get_or, length, not, sym, ◌*◌, ◌/◌, ◌∙◌, ◌≡◌}
 use Rattle.lists.proofs.Upto.{get_or-table}
 use Rattle.paper.specs.Map.{word}

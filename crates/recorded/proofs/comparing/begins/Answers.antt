@@ -1,3 +1,5 @@
+-- `recorded::comparing::begins` meets its contract. The loop: what is left of the numbers told, and of the words that they are held against, decides.
+-- Rests on Same.
 use Rattle.std.proofs.Common.{arith, refl, rules, sym, ◌∙◌}
 use Rattle.recorded.proofs.Same.{too_few, front_equal, front_other, front-all}
 use Rattle.recorded.proofs.comparing.begins.Goals as goal

@@ -1,3 +1,5 @@
+-- `recorded::comparing::is_list` meets its contract: the length is compared first, then the words after it.
+-- Rests on Same.
 use Rattle.std.proofs.Common.{List, ap, arith, drop, length, length-drop, sym, take_all, ℕ, ◌+◌, ◌-◌, ◌∙◌, ◌∷◌}
 use Rattle.recorded.proofs.Same.{rest-short, rest_other, rest_equal}
 use Rattle.lists.specs.Lists.{same}

@@ -1,3 +1,5 @@
+-- `recorded::comparing::is_told` meets its contract: no word stands behind the numbers told.
+-- Rests on Same.
 use Rattle.std.proofs.Common.{◌∙◌}
 use Rattle.recorded.proofs.Same.{rest-short, no_more}
 use Rattle.recorded.proofs.comparing.is_told.Goals as goal

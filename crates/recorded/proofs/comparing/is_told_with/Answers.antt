@@ -1,3 +1,5 @@
+-- `recorded::comparing::is_told_with` meets its contract: the numbers told are compared first, then the list behind them.
+-- Rests on Same.
 use Rattle.std.proofs.Common.{ap, arith, not}
 use Rattle.recorded.proofs.Same.{with_none, with_other, with_list_lem}
 use Rattle.recorded.proofs.comparing.is_told_with.Goals as goal

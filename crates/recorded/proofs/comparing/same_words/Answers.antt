@@ -1,3 +1,5 @@
+-- `recorded::comparing::same_words` meets its contract. The loop: what is left of both lists decides.
+-- Rests on Same.
 use Rattle.std.proofs.Common.{arith, refl, rules, sym}
 use Rattle.recorded.proofs.Same.{other_length, equal_here, other_here, equal_all}
 use Rattle.recorded.proofs.comparing.same_words.Goals as goal

@@ -1,3 +1,5 @@
+-- `recorded::held::is_intervals_answer` meets its contract: what intervals answer, told in numbers, is held against the rest, and the list behind it.
+-- Rests on Answers.
 use Rattle.std.proofs.Common.{ap, drop, ◌∙◌}
 use Rattle.lists.specs.Lists.{same}
 use Rattle.paper.specs.Exports.{Told}

@@ -1,3 +1,5 @@
+-- `recorded::held::is_order_answer` meets its contract: what the order checker answers, told in numbers, is held against the rest.
+-- Rests on Answers.
 use Rattle.std.proofs.Common.{ap, drop, ◌∙◌}
 use Rattle.lists.specs.Lists.{same}
 use Rattle.paper.specs.Exports.{Told}

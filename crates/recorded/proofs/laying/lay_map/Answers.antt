@@ -1,3 +1,5 @@
+-- `recorded::laying::lay_map` meets its contract: the stores in turn are the map's bytes.
+-- Rests on MapBytes.
 use Rattle.recorded.proofs.MapBytes.{laid}
 use Rattle.recorded.proofs.laying.lay_map.Goals as goal
 

@@ -1,3 +1,5 @@
+-- `recorded::line_parts::list_at` meets its contract: each return says where the list ends, or that the line is too short for it.
+-- Rests on Parts.
 use Rattle.std.proofs.Common.{ap, arith, refl, ℕ, ◌+◌}
 use Rattle.recorded.specs.Parts.{ListAt}
 use Rattle.recorded.proofs.line_parts.list_at.Goals as goal

@@ -1,3 +1,5 @@
+-- `recorded::sections::is_part` meets its contract: a part that was given does not end before it begins, and is compared whole.
+-- Rests on Bounds and Used.
 use Rattle.std.proofs.Common.{arith, rules}
 use Rattle.recorded.proofs.Bounds.{in_order}
 use Rattle.recorded.proofs.Used.{not_so, is-between}

@@ -1,3 +1,5 @@
+-- `recorded::sections::same_section` meets its contract: a map that was read has sizes within the limits, K is a word, and the kind's part is compared.
+-- Rests on stepmap's Answers, tables' Placed and Used.
 use Rattle.std.proofs.Common.{ap, arith, sym, ◌∙◌}
 use Rattle.stepmap.proofs.Answers.{read_well}
 use Rattle.stepmap.specs.Said.{map_said}

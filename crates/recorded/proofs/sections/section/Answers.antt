@@ -1,3 +1,5 @@
+-- `recorded::sections::section` meets its contract: each kind's part is where its words in use stand, and does not end before it begins.
+-- Rests on Used.
 use Rattle.std.proofs.Common.{arith}
 use Rattle.recorded.specs.Parts.{Ordered}
 use Rattle.recorded.specs.Sections.{UsedAt, used_at}

@@ -1,3 +1,5 @@
+-- `records::bad::check_record` meets its contract: a good record's line is known, so its mark and its slot stand in the scratch.
+-- Rests on Slotting.
 use Rattle.std.proofs.Common.{arith, length, length-set, ◌+◌, ◌<◌}
 use Rattle.paper.specs.Area.{K}
 use Rattle.tables.proofs.Words.{count-few}

@@ -1,3 +1,5 @@
+-- `records::bad::is_bad` meets its contract: each return is one of 12's reasons, in the table's order; the mark tells a line used before.
+-- Rests on Reasons and Slotting.
 use Rattle.std.proofs.Common.{ap, arith, not, rules, ◌<◌}
 use Rattle.paper.specs.Area.{K}
 use Rattle.tables.proofs.Words.{count-is, count-few}

@@ -1,3 +1,5 @@
+-- `records::bad::stands_on` meets its contract: a position stands on a line if the lookup finds it there.
+-- Rests on Standing.
 use Rattle.on_line.proofs.Along.{line_at}
 use Rattle.records.proofs.Standing.{stands_off, stands-there}
 use Rattle.records.proofs.bad.stands_on.Goals as goal

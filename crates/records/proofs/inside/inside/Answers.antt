@@ -1,3 +1,5 @@
+-- `records::inside::inside` meets its contract: the node's lines are handed on as a part of the area.
+-- Rests on Slots.
 use Rattle.records.proofs.Slots.{slots_read, node-inside}
 use Rattle.records.proofs.inside.inside.Goals as goal
 

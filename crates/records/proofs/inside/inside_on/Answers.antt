@@ -1,3 +1,5 @@
+-- `records::inside::inside_on` meets its contract: no mark, or the record at the line's slot.
+-- Rests on Slots.
 use Rattle.std.proofs.Common.{arith, length, ◌*◌, ◌+◌, ◌<◌}
 use Rattle.records.proofs.Slots.{unmarked, whole, under-lowest, from_lowest}
 use Rattle.records.proofs.inside.inside_on.Goals as goal

@@ -1,4 +1,6 @@
-use Rattle.std.proofs.Common.{arith, below_more, below_none, false, subst, sym, ℕ}
+-- `records::inside::inside_on_some` meets its contract: outside on the lines passed, and the first line inside decides.
+-- Rests on Any.
+use Rattle.std.proofs.Common.{arith, below_more, below_none, subst, sym, ℕ}
 use Rattle.records.proofs.Any.{passes_here, fails_here, passed_by}
 use Rattle.records.specs.Slots.{SlotAt, inside_slot}
 use Rattle.records.proofs.inside.inside_on_some.Goals as goal

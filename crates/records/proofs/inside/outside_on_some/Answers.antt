@@ -1,4 +1,6 @@
-use Rattle.std.proofs.Common.{ap, arith, below_more, below_none, false, not, subst, sym, ℕ}
+-- `records::inside::outside_on_some` meets its contract: inside on the lines passed, and the first line outside decides.
+-- Rests on Any.
+use Rattle.std.proofs.Common.{ap, arith, below_more, below_none, not, subst, sym, ℕ}
 use Rattle.records.proofs.Any.{opposite_here, opposite_fails, passed_by}
 use Rattle.records.specs.Slots.{SlotAt, inside_slot}
 use Rattle.records.proofs.inside.outside_on_some.Goals as goal

@@ -1,3 +1,5 @@
+-- `records::inside::straddles` meets its contract: inside on some line, then what the lines outside say.
+-- Rests on Slots.
 use Rattle.std.proofs.Common.{ap, not}
 use Rattle.records.proofs.Slots.{slots_read, nowhere_inside, somewhere_inside}
 use Rattle.records.proofs.inside.straddles.Goals as goal

@@ -1,3 +1,5 @@
+-- `stepmap::access::num_outputs` meets its contract: the field stands in node v's record.
+-- Rests on paper's `outs`.
 use Rattle.paper.specs.Map.{outs}
 use Rattle.stepmap.proofs.access.num_outputs.Goals as goal
 

@@ -1,3 +1,5 @@
+-- `stepmap::links::check_link` meets its contract: the mark at the link's input says whether an earlier link ends there.
+-- Rests on Marking.
 use Rattle.std.proofs.Common.{arith, sym, ◌∙◌}
 use Rattle.stepmap.proofs.Marking.{mark-below, mark_set, mark-clear, answer_4, answer_5, answer-none}
 use Rattle.stepmap.proofs.links.check_link.Goals as goal

@@ -1,3 +1,5 @@
+-- `stepmap::links::check_links` meets its contract: the links passed have no fault and their inputs' marks are set; the first fault decides.
+-- Rests on LinkPass.
 use Rattle.std.proofs.Common.{arith, sym}
 use Rattle.stepmap.proofs.Known.{numbered}
 use Rattle.stepmap.proofs.Answers.{links_refused}

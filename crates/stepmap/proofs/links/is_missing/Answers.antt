@@ -1,3 +1,5 @@
+-- `stepmap::links::is_missing` meets its contract: each return is one of refusal 4's tests.
+-- Rests on LinkFaults.
 use Rattle.stepmap.proofs.LinkFaults.{from-missing, out-missing, to-missing, in_missing}
 use Rattle.stepmap.proofs.links.is_missing.Goals as goal
 

@@ -1,3 +1,5 @@
+-- `stepmap::links::target_port` meets its contract: the first port of the link's node, and the offset.
+-- Rests on Marking and Fields.
 use Rattle.std.proofs.Common.{arith}
 use Rattle.stepmap.proofs.Fields.{in_below}
 use Rattle.stepmap.proofs.Marking.{node-below, target}

@@ -1,3 +1,5 @@
+-- `stepmap::ports::first_port` meets its contract: the loop's sum is the first port of the node that it has come to.
+-- Rests on PortNumbers.
 use Rattle.std.proofs.Common.{ap, arith, refl, ◌∙◌, ◌≡◌}
 use Rattle.paper.specs.Map.{first_port}
 use Rattle.stepmap.proofs.PortNumbers.{first-port-next, ins-below, outs-below, first_below}

@@ -1,3 +1,5 @@
+-- `stepmap::ports::first_ports` meets its contract: after v nodes the first v places hold their first ports.
+-- Rests on PortNumbers and lists.Upto.
 use Rattle.std.proofs.Common.{ap, arith, length, length-set, refl, ◌+◌, ◌≡◌, ◌≤◌}
 use lib.Seq.{length-sets}
 use Rattle.paper.specs.Map.{first_port}

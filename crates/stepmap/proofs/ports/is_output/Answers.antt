@@ -1,3 +1,5 @@
+-- `stepmap::ports::is_output` meets its contract: the outputs of the port's node start after its inputs.
+-- Rests on PortNumbers.
 use Rattle.std.proofs.Common.{arith}
 use Rattle.stepmap.proofs.PortNumbers.{holder, ins-below, first_below, output_test}
 use Rattle.stepmap.proofs.Reading.{nodes-below}

@@ -1,3 +1,5 @@
+-- `stepmap::ports::port_node` meets its contract: the port is not before node v, and the loop ends where it is before the next.
+-- Rests on PortNumbers.
 use Rattle.std.proofs.Common.{arith, ◌+◌, ◌≤◌}
 use Rattle.paper.specs.Map.{first_port}
 use Rattle.stepmap.proofs.PortNumbers.{first-port_zero, first-port-next, first_below, ins-below, outs-below, known-before, owner-node}

@@ -1,3 +1,5 @@
+-- `stepmap::ports::port_offset` meets its contract: the offset counts from the node's inputs or from its outputs.
+-- Rests on PortNumbers.
 use Rattle.std.proofs.Common.{arith}
 use Rattle.stepmap.proofs.PortNumbers.{holder, ins-below, first_below, offset_in, offset_out}
 use Rattle.stepmap.proofs.Reading.{nodes-below}

@@ -1,4 +1,6 @@
-use Rattle.std.proofs.Common.{ap, arith, below_more, below_none, sym, true, ℕ, ◌∙◌, ◌≡◌}
+-- `stepmap::read::degrees_within` meets its contract: the nodes passed have few ports, and the first that has not decides.
+-- Rests on lists.AllAny and Reading.
+use Rattle.std.proofs.Common.{ap, arith, below_more, below_none, sym, ℕ, ◌∙◌, ◌≡◌}
 use Rattle.lists.specs.Lists.{all, upto}
 use Rattle.stepmap.specs.Formed.{few_ports}
 use Rattle.lists.proofs.AllAny.{all_true, all_false}

@@ -1,3 +1,5 @@
+-- `stepmap::read::is_mark` meets its contract: each return goes by the bytes compared so far.
+-- Rests on Reading.
 use Rattle.std.proofs.Common.{eq-eqb, ne_eqb, sym, ◌∙◌}
 use mathlib.Core.Bool.{and-true}
 use Rattle.stepmap.proofs.Reading.{mark_test}

@@ -1,3 +1,5 @@
+-- `stepmap::read::read_map` meets its contract: each return is refusal 1, one of refusal 2's limits, or the sizes.
+-- Rests on Reading and PortNumbers.
 use Rattle.std.proofs.Common.{arith, sym, ◌∙◌}
 use Rattle.stepmap.proofs.PortNumbers.{total}
 use Rattle.stepmap.proofs.Reading.{formed-size, nodes-many, links-many, degree_large, ports-many, within, refused_1, refused_2, sized}

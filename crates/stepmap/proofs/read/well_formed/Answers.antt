@@ -1,3 +1,5 @@
+-- `stepmap::read::well_formed` meets its contract: each return is one of refusal 1's tests.
+-- Rests on Reading.
 use Rattle.std.proofs.Common.{arith, sym, ◌∙◌}
 use Rattle.paper.specs.Map.{trailer, to_nodes, to_links, mark}
 use Rattle.stepmap.proofs.Reading.{nodes_far, links_far, long, marked, nodes-below, links-below}

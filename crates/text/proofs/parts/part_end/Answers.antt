@@ -1,3 +1,5 @@
+-- `text::parts::part_end` meets its contract. The loop: the part ends where the part from `end` on ends.
+-- Rests on Split.
 use Rattle.std.proofs.Common.{refl, rules, sym, ◌∙◌}
 use Rattle.text.proofs.Split.{part-on, part-here, part_over}
 use Rattle.text.proofs.parts.part_end.Goals as goal

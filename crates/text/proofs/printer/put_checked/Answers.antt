@@ -1,3 +1,5 @@
+-- `text::printer::put_checked` meets its contract: the reply, and then a space with the count; there is room for both.
+-- Rests on Printed.
 use Rattle.std.proofs.Common.{arith}
 use Rattle.lists.specs.Ascii.{ascii}
 use Rattle.paper.specs.Text.{decimal, show_line}

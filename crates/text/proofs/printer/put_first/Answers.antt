@@ -1,3 +1,5 @@
+-- `text::printer::put_first` meets its contract: three words with their numbers, and then a newline; there is room for each.
+-- Rests on Printed.
 use Rattle.std.proofs.Common.{arith}
 use Rattle.lists.specs.Ascii.{ascii}
 use Rattle.paper.specs.Text.{decimal}

@@ -1,3 +1,5 @@
+-- `text::printer::put_path` meets its contract. The loop: the first i steps are put, each in at most 6 bytes.
+-- Rests on Printed.
 use Rattle.std.proofs.Common.{arith, length-append, refl, rules, take_all, ◌++◌}
 use mathlib.Core.List.{flat_map}
 use Rattle.lists.specs.Ascii.{ascii}

@@ -1,3 +1,5 @@
+-- `text::printer::put_refused` meets its contract: the word with the number, and then a space with the place; there is room for both.
+-- Rests on Printed.
 use Rattle.std.proofs.Common.{arith}
 use Rattle.lists.specs.Ascii.{ascii}
 use Rattle.paper.specs.Text.{decimal, show_refused}

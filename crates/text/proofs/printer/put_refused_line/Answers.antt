@@ -1,3 +1,5 @@
+-- `text::printer::put_refused_line` meets its contract: the refusal, and then a newline; there is room for both.
+-- Rests on Printed.
 use Rattle.std.proofs.Common.{arith}
 use Rattle.text.proofs.Printed.{put_then, refused_short}
 use Rattle.text.proofs.printer.put_refused_line.Goals as goal

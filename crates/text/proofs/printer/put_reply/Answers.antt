@@ -1,3 +1,5 @@
+-- `text::printer::put_reply` meets its contract: each way puts its own word.
+-- Rests on Printed.
 use Rattle.paper.specs.Text.{show_reply}
 use Rattle.text.proofs.Printed.{reply-put}
 use Rattle.text.proofs.printer.put_reply.Goals as goal

@@ -1,3 +1,5 @@
+-- `text::printer::put_text` meets its contract. The loop: the first i bytes of the text are put, and the rest stand.
+-- Rests on Printed.
 use Rattle.std.proofs.Common.{ap, arith, refl, rules, take_all, ◌∙◌}
 use lib.Seq.{sets}
 use Rattle.text.proofs.Printed.{byte_more}

@@ -1,3 +1,5 @@
+-- `text::reader::read_list` meets its contract. The loop: the parts of the line are the numbers stored, and those left (SoFar).
+-- Rests on Lists.
 use Rattle.std.proofs.Common.{arith, refl, rules, sym, ◌∙◌}
 use Rattle.text.proofs.Lists.{moved, read_none, read-start, read_more, read_bad, read_all}
 use Rattle.text.proofs.reader.read_list.Goals as goal

@@ -1,3 +1,5 @@
+-- `text::reader::read_number` meets its contract: each way out is one outcome of paper's tests.
+-- Rests on Numbers.
 use Rattle.std.proofs.Common.{arith, ◌∙◌}
 use Rattle.text.proofs.Numbers.{no_number, one_digit, needless_zero, more_digits}
 use Rattle.text.proofs.reader.read_number.Goals as goal

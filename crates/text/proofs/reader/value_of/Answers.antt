@@ -1,3 +1,5 @@
+-- `text::reader::value_of` meets its contract. The loop: what the digits say is what those from i on say after the value so far.
+-- Rests on Numbers.
 use Rattle.std.proofs.Common.{arith, drop, refl, rules, sym, ◌+◌, ◌∙◌}
 use Rattle.text.proofs.Numbers.{read_over, too_large, digit_below, digit_above, digit_more}
 use Rattle.text.proofs.reader.value_of.Goals as goal

@@ -1,3 +1,5 @@
+-- `topo_checker::layout::keep_places` meets its contract: the places of the nodes passed are kept.
+-- Rests on Laying.
 use Rattle.std.proofs.Common.{arith, rules}
 use Rattle.topo_checker.proofs.Laying.{kept-none, node-inside, place_inside, kept_next, all-kept}
 use Rattle.topo_checker.proofs.layout.keep_places.Goals as goal

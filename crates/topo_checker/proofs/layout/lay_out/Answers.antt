@@ -1,3 +1,5 @@
+-- `topo_checker::layout::lay_out` meets its contract: each section is written behind the one before it.
+-- Rests on Laying.
 use Rattle.std.proofs.Common.{arith}
 use Rattle.topo_checker.proofs.Laying.{free, fits, scratch-inside, ordered, laid_out}
 use Rattle.topo_checker.proofs.layout.lay_out.Goals as goal

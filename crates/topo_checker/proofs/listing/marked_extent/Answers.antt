@@ -1,3 +1,5 @@
+-- `topo_checker::listing::marked_extent` meets its contract: the extent of the places passed.
+-- Rests on Taking.
 use Rattle.std.proofs.Common.{arith, refl, rules}
 use Rattle.topo_checker.proofs.Taking.{extent_next, extent_all}
 use Rattle.topo_checker.specs.Listing.{extent_below}

@@ -1,3 +1,5 @@
+-- `topo_checker::listing::take_list` meets its contract: the entries passed are known, and their places are marked.
+-- Rests on Taking.
 use Rattle.std.proofs.Common.{ap, arith, not, rules}
 use Rattle.topo_checker.proofs.Taking.{taken_none, placed_now, taken_next, unknown_taken, all-taken}
 use Rattle.topo_checker.proofs.listing.take_list.Goals as goal

@@ -1,3 +1,5 @@
+-- `topo_checker::listing::take_list_bytes` meets its contract: as take_list, with entry i read from the bytes.
+-- Rests on Taking and words' Turns.
 use Rattle.std.proofs.Common.{ap, arith, not, rules}
 use Rattle.words.proofs.Turns.{length-words_from}
 use Rattle.topo_checker.proofs.Taking.{taken_none, placed_now, taken_next, unknown_taken, all-taken, byte_entry}

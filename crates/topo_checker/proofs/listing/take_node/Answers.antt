@@ -1,3 +1,5 @@
+-- `topo_checker::listing::take_node` meets its contract: a known node's place is marked.
+-- Rests on Taking.
 use Rattle.std.proofs.Common.{arith}
 use Rattle.topo_checker.proofs.Taking.{node_unknown, mark-inside, node-marked}
 use Rattle.topo_checker.proofs.listing.take_node.Goals as goal

@@ -1,3 +1,5 @@
+-- `topo_checker::listing::widened` meets its contract: a place that is not marked changes nothing, a marked one is the new last.
+-- Rests on Taking.
 use Rattle.std.proofs.Common.{ap, sym, ◌∙◌}
 use Rattle.topo_checker.proofs.Taking.{not_wider, is-wider}
 use Rattle.topo_checker.specs.declared.listing.Extent.{Extent}

@@ -1,3 +1,5 @@
+-- `topo_checker::near::is_listed` meets its contract: below the range, above it, or in it.
+-- Rests on Nearby.
 use Rattle.topo_checker.proofs.Nearby.{listed_below, listed_above, listed-within}
 use Rattle.topo_checker.proofs.near.is_listed.Goals as goal
 

@@ -1,3 +1,5 @@
+-- `topo_checker::near::mark_other` meets its contract: below the range, above it, listed, or else marked.
+-- Rests on Nearby.
 use Rattle.topo_checker.proofs.Nearby.{other_below, other_above, other_listed, other_marked}
 use Rattle.topo_checker.proofs.near.mark_other.Goals as goal
 

@@ -1,3 +1,5 @@
+-- `topo_checker::near::mark_others` meets its contract: the places that the links passed lead to are marked as far as they are not listed.
+-- Rests on Nearby.
 use Rattle.std.proofs.Common.{arith, rules}
 use Rattle.topo_checker.proofs.Nearby.{laid_then, marks-fit, number_fits, others-none, others-next, others-all}
 use Rattle.topo_checker.proofs.near.mark_others.Goals as goal

@@ -1,7 +1,8 @@
-use Rattle.std.proofs.Common.{arith, below_more, below_none, false, rules, sym, ◌+◌}
+-- `topo_checker::near::meets_listed` meets its contract: none of the links passed leads to a listed place in the range.
+-- Rests on Nearby.
+use Rattle.std.proofs.Common.{arith, below_more, below_none, rules, sym, ◌+◌}
 use Rattle.lists.proofs.AllAny.{any_true, any_false}
 use Rattle.topo_checker.proofs.Nearby.{mark-fits, number_fits, listed_so}
-use Rattle.topo_checker.specs.Near.{is_listed}
 use Rattle.topo_checker.proofs.near.meets_listed.Goals as goal
 
 pub loop-x-init : goal.loop-x-init

@@ -1,3 +1,5 @@
+-- `topo_checker::near::place_reached` meets its contract: the target of the link, and the target's place.
+-- Rests on Nearby.
 use Rattle.std.proofs.Common.{ap, get_or, ℕ, ◌+◌, ◌∙◌}
 use Rattle.topo_checker.specs.Near.{place_reached}
 use Rattle.topo_checker.proofs.Nearby.{place-fits}

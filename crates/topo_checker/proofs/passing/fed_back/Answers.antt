@@ -1,3 +1,5 @@
+-- `topo_checker::passing::fed_back` meets its contract: the marks follow the state after the places passed.
+-- Rests on Following.
 use Rattle.std.proofs.Common.{arith}
 use Rattle.topo_checker.proofs.Following.{going_first, inside, laid_now, both_kept, going_next, feeds_back, all-passed}
 use Rattle.topo_checker.proofs.passing.fed_back.Goals as goal

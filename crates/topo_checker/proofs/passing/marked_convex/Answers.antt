@@ -1,3 +1,5 @@
+-- `topo_checker::passing::marked_convex` meets its contract: one place at most is a yes, and else the range is passed.
+-- Rests on Marked.
 use Rattle.std.proofs.Common.{arith}
 use Rattle.topo_checker.proofs.Marked.{few-marked, unpassed, range_marked}
 use Rattle.topo_checker.proofs.passing.marked_convex.Goals as goal

@@ -1,3 +1,5 @@
+-- `topo_checker::passing::pass_place` meets its contract: each return is a case of passing a place.
+-- Rests on Neighbours and Following.
 use Rattle.std.proofs.Common.{arith}
 use Rattle.topo_checker.proofs.Following.{passed-listed, passed_other, passed_feeding, passed-marked}
 use Rattle.topo_checker.proofs.Neighbours.{known, rises, links-inside}

@@ -1,3 +1,5 @@
+-- `toposort::ordering::order_map` meets its contract: refusal 1 or 2, else what `order_sized` leaves.
+-- Rests on Sizing, stepmap's Answers and refusals' Rulings.
 use Rattle.std.proofs.Common.{ap, refl, sym, ◌∙◌}
 use Rattle.refusals.proofs.Rulings.{ruled_by_lem}
 use Rattle.stepmap.specs.Said.{map_said}

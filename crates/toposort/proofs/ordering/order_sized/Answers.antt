@@ -1,3 +1,5 @@
+-- `toposort::ordering::order_sized` meets its contract: refusal 3, then 4 or 5, then what `order_sound` says.
+-- Rests on Sizing and stepmap's Answers.
 use Rattle.std.proofs.Common.{ap, refl, rules, sym, ◌∙◌}
 use Rattle.stepmap.specs.Said.{links_said}
 use Rattle.stepmap.proofs.Answers.{links_refused}

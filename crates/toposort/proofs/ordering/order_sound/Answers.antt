@@ -1,3 +1,5 @@
+-- `toposort::ordering::order_sound` meets its contract: no cycle leaves what was laid, a cycle leaves the words at 0.
+-- Rests on Composing and Refusing.
 use Rattle.toposort.proofs.Composing.{free, indexed, order-laid}
 use Rattle.toposort.proofs.Refusing.{all-ordered, cycle-found}
 use Rattle.toposort.proofs.ordering.order_sound.Goals as goal

@@ -1,3 +1,5 @@
+-- `toposort::queue::follow` meets its contract: a node whose counter was 1 joins, another waits.
+-- Rests on Joining.
 use Rattle.std.proofs.Common.{arith, length-set}
 use Rattle.toposort.specs.Queue.{lowered, followed}
 use Rattle.toposort.proofs.Joining.{joins, waits}

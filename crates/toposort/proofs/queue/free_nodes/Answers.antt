@@ -1,3 +1,5 @@
+-- `toposort::queue::free_nodes` meets its contract: before node v those below it with counter 0 have joined.
+-- Rests on Joining.
 use Rattle.std.proofs.Common.{ap, arith, length, refl, rules, ◌∙◌}
 use lib.Seq.{sets, length-sets}
 use Rattle.lists.proofs.Upto.{at_the_end}

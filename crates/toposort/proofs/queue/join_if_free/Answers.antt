@@ -1,3 +1,5 @@
+-- `toposort::queue::join_if_free` meets its contract: a node whose counter is 0 joins, another waits.
+-- Rests on Joining.
 use Rattle.toposort.proofs.Joining.{joins, waits}
 use Rattle.toposort.proofs.queue.join_if_free.Goals as goal
 

@@ -1,3 +1,5 @@
+-- `toposort::queue::lowest_left` meets its contract: the counters passed are 0, and the first that is not decides.
+-- Rests on Leftover.
 use Rattle.std.proofs.Common.{arith, below_more, below_none}
 use Rattle.toposort.proofs.Leftover.{left_at, none_left}
 use Rattle.toposort.proofs.queue.lowest_left.Goals as goal

@@ -1,3 +1,5 @@
+-- `toposort::turns::all_turns` meets its contract: after t turns the area is as the queue after t turns lays it.
+-- Rests on Running.
 use Rattle.std.proofs.Common.{ap, arith, length, rules, ◌∙◌}
 use Rattle.paper.specs.Order.{queue_after}
 use Rattle.toposort.proofs.Running.{as_long, standing, over_next, no_fewer, turns_left, order-count, order-laid, none-taken}

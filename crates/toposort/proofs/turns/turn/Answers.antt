@@ -1,3 +1,5 @@
+-- `toposort::turns::turn` meets its contract: after each link of the front the area is as the state within the turn lays it.
+-- Rests on Turning.
 use Rattle.std.proofs.Common.{ap, arith, length, rules, ◌<◌, ◌∙◌, ◌≡◌}
 use Rattle.paper.specs.Order.{Queue}
 use Rattle.order_theory.specs.Queued.{front_at}

@@ -1,3 +1,5 @@
+-- `varddohas::line_exports::varddohas_get_intervals_from_nodes` meets its contract: the call is asked on the words that cross, and what it leaves is put back.
+-- Rests on Exported and crossing's Crossed.
 use Rattle.std.proofs.Common.{arith}
 use Rattle.paper.specs.Calls.{get_intervals_from_nodes}
 use Rattle.paper.specs.Words.{words_from}

@@ -1,3 +1,5 @@
+-- `varddohas::line_exports::varddohas_line_is_node_convex` meets its contract: the call is asked on the words that cross, and what it leaves is put back;
+-- and what is told keeps demand 3's promise. Rests on Exported, Promises and crossing's Crossed.
 use Rattle.std.proofs.Common.{arith}
 use Rattle.paper.specs.Calls.{is_node_convex}
 use Rattle.paper.specs.Words.{words_from}

@@ -1,3 +1,5 @@
+-- `varddohas::line_exports::varddohas_try_extend_intervals` meets its contract: the call is asked on the words that cross, and what it leaves is put back.
+-- Rests on Exported and crossing's Crossed.
 use Rattle.std.proofs.Common.{arith}
 use Rattle.paper.specs.Calls.{try_extend_intervals}
 use Rattle.paper.specs.Words.{words_from}

@@ -1,3 +1,5 @@
+-- `varddohas::line_exports::varddohas_view_lines_at_port` meets its contract: the words that cross are asked, and nothing is put back.
+-- Rests on Exported.
 use Rattle.varddohas.proofs.Exported.{held-read, view_exported}
 use Rattle.varddohas.proofs.line_exports.varddohas_view_lines_at_port.Goals as goal
 

@@ -1,3 +1,5 @@
+-- `varddohas::path_export::varddohas_show_path` meets its contract: the call is asked on the words that cross, and what it leaves is put back;
+-- and what is told, with what stands in the buffer, keeps the path's promise. Rests on Exported, Promises and crossing's Crossed.
 use Rattle.std.proofs.Common.{arith}
 use Rattle.paper.specs.Calls.{show_path}
 use Rattle.paper.specs.Words.{words_from}

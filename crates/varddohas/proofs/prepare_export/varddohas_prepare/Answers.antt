@@ -1,3 +1,5 @@
+-- `varddohas::prepare_export::varddohas_prepare` meets its contract: the call is asked on the words that cross, and what it leaves is put back.
+-- Rests on Exported and crossing's Crossed.
 use Rattle.std.proofs.Common.{arith}
 use Rattle.paper.specs.Calls.{prepare}
 use Rattle.crossing.proofs.Crossed.{prepare_crosses}

@@ -1,3 +1,5 @@
+-- `walk::links::join_neighbours` meets its contract: before link i the targets of the links before it have joined.
+-- Rests on Neighbours and neighbours' Passing.
 use Rattle.std.proofs.Common.{arith}
 use Rattle.neighbours.proofs.Passing.{targets_rise, link-known, target_below, all-targets}
 use Rattle.walk.proofs.Neighbours.{grown_as, leading-kept, links-start, links-next}

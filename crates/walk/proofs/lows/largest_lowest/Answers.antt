@@ -1,3 +1,5 @@
+-- `walk::lows::largest_lowest` meets its contract: before record i the largest of those before it is known.
+-- Rests on Lowest.
 use Rattle.std.proofs.Common.{ap, arith, rules, ℕ, ◌∙◌}
 use Rattle.lists.proofs.Upto.{at_the_end}
 use Rattle.paper.specs.Walk.{M}

@@ -1,3 +1,5 @@
+-- `walk::lows::lay_lows` meets its contract: before record i those before it are stored.
+-- Rests on Lowest.
 use Rattle.std.proofs.Common.{ap, arith, length, rules, ◌*◌, ◌+◌, ◌<◌, ◌^◌, ◌∙◌}
 use Rattle.lists.proofs.Upto.{at_the_end}
 use Rattle.walk.specs.Lows.{lows_laid}

@@ -1,3 +1,5 @@
+-- `walk::lows::stands_below` meets its contract: on the lines passed it does not stand below, and the first line on which it does decides.
+-- Rests on Lowest.
 use Rattle.std.proofs.Common.{arith, below_more}
 use Rattle.walk.proofs.Lowest.{line-inside, below-here, not_below, below_nowhere}
 use Rattle.walk.proofs.lows.stands_below.Goals as goal

@@ -1,3 +1,5 @@
+-- `walk::queue::join` meets its contract: a marked node is left out, another is marked and appended.
+-- Rests on Joining.
 use Rattle.std.proofs.Common.{arith, length-set}
 use Rattle.walk.proofs.Joining.{join_again, join-fits, join-once}
 use Rattle.walk.proofs.queue.join.Goals as goal

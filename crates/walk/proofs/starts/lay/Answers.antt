@@ -1,3 +1,5 @@
+-- `walk::starts::lay` meets its contract: each step leaves what the next one asks.
+-- Rests on Laying.
 use Rattle.std.proofs.Common.{arith, rules, ◌*◌, ◌+◌, ◌-◌}
 use Rattle.walk.proofs.Laying.{free, room_fits, links_scratched, lined, laid_out}
 use Rattle.walk.proofs.starts.lay.Goals as goal

@@ -1,3 +1,5 @@
+-- `walk::starts::start` meets its contract: before record i the start nodes of those before it have joined.
+-- Rests on Starting.
 use Rattle.std.proofs.Common.{arith, length, ◌*◌, ◌+◌, ◌<◌}
 use Rattle.walk.proofs.Starting.{starts_none, starting, starts-next, begun}
 use Rattle.walk.proofs.starts.start.Goals as goal

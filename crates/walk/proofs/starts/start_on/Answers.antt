@@ -1,3 +1,5 @@
+-- `walk::starts::start_on` meets its contract: the node after the position joins, or there is none.
+-- Rests on Starting.
 use Rattle.std.proofs.Common.{ap, sym, ◌∙◌}
 use Rattle.lookup.specs.Said.{next_said}
 use Rattle.walk.proofs.Starting.{nobody_next, next-joins}

@@ -1,3 +1,5 @@
+-- `walk::turns::turn` meets its contract: a law for each way that a turn ends.
+-- Rests on Turning.
 use Rattle.walk.proofs.Turning.{asked, leading, taken-inside, taken-known, position-inside, turn_skips, turn-stops, turn_goes}
 use Rattle.walk.proofs.turns.turn.Goals as goal
 

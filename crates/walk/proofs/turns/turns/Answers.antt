@@ -1,3 +1,5 @@
+-- `walk::turns::turns` meets its contract: after t turns the area holds the walk with marks after t turns.
+-- Rests on Running.
 use Rattle.std.proofs.Common.{arith, ◌∙◌}
 use Rattle.tables.proofs.Within.{within_none}
 use Rattle.walk.proofs.Running.{state-starts, ended, turning, ended_no, went_on}

@@ -1,3 +1,5 @@
+-- `words::bytes::put_words` meets its contract. The loop: the first i words are put, and the rest of the bytes stand.
+-- Rests on Turns.
 use Rattle.std.proofs.Common.{ap, refl, rules, take_all, ◌∙◌}
 use mathlib.Core.List.{flat_map}
 use Rattle.paper.specs.Words.{bytes_from, put_words}

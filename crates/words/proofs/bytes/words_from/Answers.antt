@@ -1,3 +1,5 @@
+-- `words::bytes::words_from` meets its contract. The loop: the first i words are those of the bytes, and the rest stand.
+-- Rests on Turns.
 use Rattle.std.proofs.Common.{arith, length, refl, rules, ◌/◌, ◌≡◌}
 use Rattle.paper.specs.Words.{words_from}
 use Rattle.words.proofs.Turns.{words_again}

@@ -1,3 +1,5 @@
+-- `words::field::field_at` meets its contract: the two bytes are below 256, so the sum fits and is the word.
+-- Rests on paper's `word`.
 use Rattle.std.proofs.Common.{arith, ◌+◌}
 use Rattle.paper.specs.Map.{word}
 use Rattle.words.proofs.field.field_at.Goals as goal

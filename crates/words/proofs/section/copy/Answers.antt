@@ -1,3 +1,5 @@
+-- `words::section::copy` meets its contract. The loop: the first `copied` words of the source stand at `dst` too, and the rest of the area stands.
+-- Rests on Turns: what is still to be copied is not written over, since the two sections are apart.
 use Rattle.std.proofs.Common.{arith, refl, rules, ◌≡◌}
 use Rattle.words.proofs.Turns.{copy_again}
 use Rattle.words.proofs.section.copy.Goals as goal

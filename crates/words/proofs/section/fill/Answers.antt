@@ -1,3 +1,5 @@
+-- `words::section::fill` meets its contract. The loop: the first `filled` words of the section hold v, and the rest of the area stands.
+-- Rests on Turns.
 use Rattle.std.proofs.Common.{arith, refl, rules, ◌≡◌}
 use Rattle.words.proofs.Turns.{fill_again}
 use Rattle.words.proofs.section.fill.Goals as goal

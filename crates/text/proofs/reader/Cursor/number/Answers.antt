@@ -1,3 +1,5 @@
+-- `text::reader::Cursor::number` meets its contract: the part from the cursor on is within the line, and is read.
+-- Rests on Split and Numbers.
 use Rattle.std.proofs.Common.{ap, arith, sym, ◌∙◌}
 use Rattle.paper.specs.Text.{space}
 use Rattle.text.specs.Numbers.{reading_said}
