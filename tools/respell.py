@@ -65,6 +65,11 @@ MET = {(f"crates/{f}.antt", n): n + "_lem" for n, fs in MET.items() for f in fs.
 
 
 def main():
+    # The kit's script calls a clause as a definition that the clause itself cites.
+    for f in files(["rt"]):
+        text = open(f).read()
+        if "ensures area_after {" in text:
+            open(f, "w").write(text.replace("ensures area_after {", "ensures cleared {"))
     declared, lemmas, names = set(), set(), set(LIBRARY)
     for f in files(["antt"]):
         text = QUIET.sub(" ", open(f).read())
