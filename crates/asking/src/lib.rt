@@ -4,6 +4,7 @@
 // that is all, and turn i of `next_list` the one for line i of the input. No contract can say which bytes a file or standard input has: `run` reads
 // both once, and writes each line as it is made.
 #![tactic(auto)]
+
 pub mod beginning;
 pub mod checks;
 pub mod replies;
@@ -105,12 +106,7 @@ fn answer_lists<W: Write>(
 }
 
 // Writes what `begin` puts, and answers the lists where that is only the first line.
-fn answer<W: Write>(
-    program: Program,
-    map: &[u8],
-    input: &[u8],
-    writer: &mut W,
-) -> io::Result<()>
+fn answer<W: Write>(program: Program, map: &[u8], input: &[u8], writer: &mut W) -> io::Result<()>
     ensures { OnOk result (Appends (W.contents writer.old) (W.contents writer.new) (output (says_of program) map.now input.now)) }
 {
     let mut area = area_room();
@@ -160,5 +156,11 @@ pub fn run_on<R: Files, I: Read, W: Write>(
 
 // A program as it is called.
 pub fn run<R: Files + Input + Print>(rt: &R, program: Program) -> io::Result<()> {
-    run_on(rt, program, "steps.pgt", &mut rt.reader(), &mut io::writer(rt))
+    run_on(
+        rt,
+        program,
+        "steps.pgt",
+        &mut rt.reader(),
+        &mut io::writer(rt),
+    )
 }
