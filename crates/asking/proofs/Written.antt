@@ -9,7 +9,7 @@ use Rattle.lists.proofs.Sections.{part-sets_in}
 use Rattle.lists.proofs.Upto.{upto-suc, flat_map-append}
 use Rattle.paper.specs.Text.{lines_in, read_list, say_line, say_lines, output}
 use lib.ListN.{get_or}
-use lib.Seq.{length-sets, sets, take_all}
+use lib.Seq.{length-sets, take_all}
 use Rattle.asking.specs.Standing.{prepared_area}
 use Rattle.asking.specs.Says.{Says}
 use Rattle.asking.specs.Printed.{Shown}

@@ -30,7 +30,13 @@ fn program_of(line: &[u8]) -> Program {
 }
 
 // Runs a program on a map's file, which may be missing, and on a file for its input, which must be there.
-fn run_files<R: Files>(rt: &R, out: &mut impl Write, program: Program, map: &str, input: &str) -> io::Result<()> {
+fn run_files<R: Files>(
+    rt: &R,
+    out: &mut impl Write,
+    program: Program,
+    map: &str,
+    input: &str,
+) -> io::Result<()> {
     let Ok(mut file) = fs::open(rt, input) else {
         return writeln!(out, "no such input");
     };

@@ -1,6 +1,6 @@
 use Rattle.std.proofs.Common.{arith}
 use Rattle.asking.specs.Says.{says_of}
-use Rattle.asking.proofs.Texts.{bad_text, good_text, read_bad, read-good, read-few}
+use Rattle.asking.proofs.Texts.{bad_text, good_text, read_bad, read-good}
 use Rattle.asking.proofs.replies.answer_text.Goals as goal
 
 pub returns-in_default : goal.returns-in_default
