@@ -123,7 +123,7 @@ fn answer<W: Write>(program: Program, map: &[u8], input: &[u8], writer: &mut W) 
 }
 
 // Reads the input and answers it, on what was read of a map. A map or an input that fills its room is too long, whatever comes after (the law
-// `enough-read`, proofs/Starts): so what is written is the output for all of the map and all of the input.
+// `enough_read`, proofs/Starts): so what is written is the output for all of the map and all of the input.
 fn answer_input<I: Read, W: Write>(
     program: Program,
     map: &[u8],

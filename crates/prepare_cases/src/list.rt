@@ -1,5 +1,5 @@
 // The list of cases: its lines, their words, and the numbers among these. Any bytes are taken.
-ghost use Rattle.std.specs.Prelude.{◌≡◌, ◌≤◌, ◌<◌, ◌%◌, length};
+ghost use Rattle.std.specs.Prelude.{◌≡◌, ◌≤◌, ◌<◌, ◌%◌, [], length, IsUtf8};
 ghost use Rattle.prepare_cases.specs.Number.{number_of};
 
 // Where the line after the one at `at` starts, or the list's end.
@@ -44,7 +44,10 @@ pub fn next_word(line: &[u8], end: usize) -> usize
 }
 
 // A word as a file's name. One that is no text is taken as the empty one: neither names a file.
-pub fn file_name(word: &[u8]) -> &str {
+pub fn file_name(word: &[u8]) -> &str
+    ensures text { IsUtf8 word.now → result.now ≡ word.now }
+    ensures none { ¬ (IsUtf8 word.now) → result.now ≡ [] }
+{
     str::from_utf8(word).unwrap_or("")
 }
 

@@ -1,7 +1,7 @@
 // How many lines of each kind there are, and how many differ.
 #![tactic(auto)]
 
-ghost use Rattle.std.specs.Prelude.{◌≡◌, length};
+ghost use Rattle.std.specs.Prelude.{◌≡◌, ◌+◌, ◌%◌, ◌^◌, ◌<◌, ◌≤◌, length, slice_index, slice_set};
 
 use std::io;
 use std::io::Write;
@@ -14,7 +14,10 @@ pub fn tally() -> [usize; 17]
 }
 
 // Counts one more of a kind. A file of 400,000 bytes has too few lines to wrap the count.
-pub fn count_turn(counts: &mut [usize], kind: usize) {
+pub fn count_turn(counts: &mut [usize], kind: usize)
+    ensures counted { kind < length counts.old → counts.new ≡ slice_set counts.old kind ((slice_index counts.old kind + 1) % 2 ^ 64) }
+    ensures no_such_kind { length counts.old ≤ kind → counts.new ≡ counts.old }
+{
     if kind < counts.len() {
         counts[kind] = counts[kind].wrapping_add(1);
     }
