@@ -4,3 +4,4 @@ pub mod Paths
 pub mod Prepares
 pub mod Starts
 pub mod Lines
+pub mod Written

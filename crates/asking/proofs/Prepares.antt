@@ -1,6 +1,6 @@
 -- The program prepares an area of at least 31,751 words, which is room for every map: the answer is that of an area of W words, and the words in
 -- use are the same. Rests on lines_theory (what preparing writes is accepted) and convexity_theory (what passes).
-use Prim.Native.Nat.{ℕ, ◌+◌, ◌≤◌, ◌<◌}
+use Prim.Native.Nat.{ℕ, ◌≤◌, ◌<◌}
 use native.Mathlib.Nat.{zero-add}
 use native.Mathlib.Omega.{arith}
 use mathlib.Core.Path.{◌≡◌, refl, sym, ap, ap₂, ◌∙◌, subst}

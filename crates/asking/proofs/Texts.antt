@@ -5,13 +5,12 @@ use native.Mathlib.Nat.{sub-zero}
 use native.Mathlib.Omega.{arith}
 use mathlib.Core.Path.{◌≡◌, sym, ap, ap₂, ◌∙◌}
 use mathlib.Core.List.{List, [], ◌∷◌, ◌++◌}
-use lib.ListN.{length, take, length-append}
+use lib.ListN.{length, take}
 use lib.Seq.{length-sets}
-use Rattle.lists.specs.Ascii.{ascii}
 use Rattle.paper.specs.Intervals.{Reply}
 use Rattle.paper.specs.Refusals.{Answer}
 use Rattle.paper.specs.Calls.{is_node_convex, topo_is_node_convex}
-use Rattle.paper.specs.Text.{newline, Read, list, bad, read_list, show_refused, show_line, show_order, say_line, ask_says}
+use Rattle.paper.specs.Text.{newline, Read, list, bad, read_list, show_refused, say_line, ask_says}
 use Rattle.text.specs.Printed.{Put}
 use Rattle.text.specs.Lists.{read_said, how_many, ReadInto}
 use Rattle.text.specs.declared.reader.ListRead.{ListRead}

@@ -21,7 +21,8 @@ pub fn begin(map: &[u8], input: &[u8], area: &mut [u16], out: &mut [u8]) -> Begi
     requires in_bounds_2 { 81 ≤ length out.old }
     ensures { Begun map.now input.now out.old out.new area.new result }
 {
-    if map.len() > 65000 {
+    let map_is_long = map.len() > 65000;
+    if map_is_long {
         return Beginning::Whole(put_refused_line(out, 0, 2, 0));
     }
     let prepared = prepare(map, area);

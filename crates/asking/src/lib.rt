@@ -1,22 +1,27 @@
 // The programs `ask` and `why`: each reads the step map `steps.pgt` and lists on standard input, and says of each list what it is asked for.
-// What is printed is proved of the functions on slices that put each line: `begin` puts the first line or the one line that is all, and turn i of
-// `next_list` the one for line i of the input; that these lines, in order, are all of paper's output is the law `output-is`, and that this is `ask` or
-// `why` say `ask-is` and `why-is` (proofs/Lines). No contract can say which bytes a program reads and writes: `run` reads both files once, and writes
-// each line as it is made.
+// What is printed is proved from the reader of the input to the writer of the output: `answer_input` appends the paper's `output` for the whole
+// map and the whole input, of what each of the two programs says (`ask-is` and `why-is`, proofs/Lines). `begin` puts the first line or the one line
+// that is all, and turn i of `next_list` the one for line i of the input. No contract can say which bytes a file or standard input has: `run` reads
+// both once, and writes each line as it is made.
 #![tactic(auto)]
+
 pub mod beginning;
 pub mod checks;
 pub mod replies;
 pub mod turns;
 pub mod ways;
 
-ghost use Rattle.std.specs.Prelude.{◌≡◌, ◌≤◌, length};
-ghost use Rattle.io.specs.Counts.{IsPrefixLen};
-ghost use Rattle.paper.specs.Text.{lines_in};
-ghost use Rattle.asking.specs.Standing.{Standing};
+ghost use Rattle.std.specs.Prelude.{◌≡◌, ℕ, ◌≤◌, List, length, take, IfOk, IfSome, OnOk};
+ghost use Rattle.std.specs.Io.KnownBytes.{Appends};
+ghost use Rattle.paper.specs.Text.{lines_in, output, say_lines};
+ghost use Rattle.asking.specs.Says.{says_of};
+ghost use Rattle.asking.specs.Standing.{Standing, prepared_area};
 
 use beginning::{Beginning, begin};
-use libc::{STDIN_FILENO, STDOUT_FILENO};
+use reading::read_full;
+use std::io::{Read, Write};
+use std::rt::Files;
+use std::{fs, io};
 use turns::next_list;
 
 // What is asked of every list: both checks, or the path that a no shows.
@@ -62,73 +67,100 @@ fn line_room() -> [u8; 3200]
 }
 
 // Reads the map's file; one that is missing counts as no bytes.
-fn read_steps(name: &[u8], room: &mut [u8]) -> usize
-    ensures { IsPrefixLen result room.new }
+fn read_steps<R: Files>(rt: &R, name: &str, room: &mut [u8]) -> io::Result<usize>
+    ensures { IfOk result (λ size. size ≤ length room.new) }
 {
-    let file = os::open_read(name);
-    if file < 0 {
-        return 0;
-    }
-    let count = io::read_full(file, room);
-    libc::close(file);
-    count
+    let Ok(mut file) = fs::open(rt, name) else {
+        return Ok(0);
+    };
+    read_full(&mut file, room)
 }
 
 // Answers the lists of the input one after the other, writes each one's line as it is made, and answers how many there were. Turn i answers line i.
-fn answer_lists(
+fn answer_lists<W: Write>(
     program: Program,
     map: &[u8],
     input: &[u8],
     area: &mut [u16],
     list: &mut [u16],
     out: &mut [u8],
-) -> usize
+    writer: &mut W,
+) -> io::Result<usize>
     requires standing { Standing map.now area.old }
     requires input_len_bound { length input.now ≤ 60000 }
     requires in_bounds { 30001 ≤ length list.old }
     requires in_bounds_2 { 3200 ≤ length out.old }
-    ensures { result ≡ length (lines_in input.now) }
+    ensures turns { IfOk result (λ turns. turns ≡ length (lines_in input.now)) }
+    ensures written { OnOk result (Appends (W.contents writer.old) (W.contents writer.new)
+        (say_lines (says_of program) map.now (prepared_area map.now) 0 (lines_in input.now))) }
 {
     let mut at = 0;
     let mut i = 0;
     while at < input.len() {
         let turn = next_list(program, map, input, area, at, i, list, out);
-        let end = turn.printed;
-        io::write_all(STDOUT_FILENO, &out[0..end]);
+        writer.write_all(&out[..turn.printed])?;
         at = turn.next;
         i += 1;
     }
-    i
+    Ok(i)
 }
 
 // Writes what `begin` puts, and answers the lists where that is only the first line.
-fn answer(program: Program, map: &[u8], input: &[u8]) {
+fn answer<W: Write>(program: Program, map: &[u8], input: &[u8], writer: &mut W) -> io::Result<()>
+    ensures { OnOk result (Appends (W.contents writer.old) (W.contents writer.new) (output (says_of program) map.now input.now)) }
+{
     let mut area = area_room();
     let mut out = line_room();
-    let begun = begin(map, input, &mut area, &mut out);
-    match begun {
-        Beginning::Whole(end) => {
-            io::write_all(STDOUT_FILENO, &out[0..end]);
-        }
+    match begin(map, input, &mut area, &mut out) {
+        Beginning::Whole(end) => writer.write_all(&out[..end]),
         Beginning::First(end) => {
-            io::write_all(STDOUT_FILENO, &out[0..end]);
+            writer.write_all(&out[..end])?;
             let mut list = list_room();
-            answer_lists(program, map, input, &mut area, &mut list, &mut out);
+            answer_lists(program, map, input, &mut area, &mut list, &mut out, writer)?;
+            Ok(())
         }
     }
 }
 
-// A whole program on a map's file and an open input. A map or an input that fills its room is too long, whatever comes after (the law
-// `enough-read`, proofs/Starts).
-pub fn run_on(program: Program, name: &[u8], from: i32) {
-    let mut map = map_room();
-    let size = read_steps(name, &mut map);
+// Reads the input and answers it, on what was read of a map. A map or an input that fills its room is too long, whatever comes after (the law
+// `enough_read`, proofs/Starts): so what is written is the output for all of the map and all of the input.
+fn answer_input<I: Read, W: Write>(
+    program: Program,
+    map: &[u8],
+    from: &mut I,
+    writer: &mut W,
+) -> io::Result<()>
+    ensures { OnOk result (IfSome (I.remaining from.old) (λ input. (whole : List ℕ) → take 65001 whole ≡ map.now
+        → Appends (W.contents writer.old) (W.contents writer.new) (output (says_of program) whole input))) }
+{
     let mut input = input_room();
-    let count = io::read_full(from, &mut input);
-    answer(program, &map[..size], &input[..count]);
+    let count = read_full(from, &mut input)?;
+    answer(program, map, &input[..count], writer)
+}
+
+// A whole program on a map's file and an open input.
+pub fn run_on<R: Files, I: Read, W: Write>(
+    rt: &R,
+    program: Program,
+    name: &str,
+    from: &mut I,
+    writer: &mut W,
+) -> io::Result<()>
+    ensures { OnOk result (IfSome (I.remaining from.old) (λ input. (map : List ℕ)
+        × Appends (W.contents writer.old) (W.contents writer.new) (output (says_of program) map input))) }
+{
+    let mut map = map_room();
+    let size = read_steps(rt, name, &mut map)?;
+    answer_input(program, &map[..size], from, writer)
 }
 
 // A program as it is called.
-pub fn run(program: Program) {
-    run_on(program, b"steps.pgt", STDIN_FILENO);
+pub fn run<R: Files + Input + Print>(rt: &R, program: Program) -> io::Result<()> {
+    run_on(
+        rt,
+        program,
+        "steps.pgt",
+        &mut rt.reader(),
+        &mut io::writer(rt),
+    )
 }

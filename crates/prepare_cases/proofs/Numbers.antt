@@ -2,7 +2,7 @@
 -- Rests on Number.
 use Prim.Native.Nat.{ℕ, ◌+◌, ◌*◌, ◌%◌}
 use native.Mathlib.Numerals.{add-one}
-use mathlib.Core.Path.{◌≡◌, refl, ap₂, ◌∙◌}
+use mathlib.Core.Path.{◌≡◌, refl, ap₂}
 use mathlib.Core.List.{List}
 use lib.ListN.{length, get_or}
 use Rattle.prepare_cases.specs.Number.{value_after, number_of}

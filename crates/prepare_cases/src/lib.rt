@@ -2,15 +2,19 @@
 // and the word that stands in each of them beforehand. `differential/record --prepare` makes the list, the maps and the
 // output to expect, which is what the Rust prepares.
 #![tactic(auto)]
+
 pub mod list;
 mod report;
 
 ghost use Rattle.std.specs.Prelude.{◌≡◌, length};
 
 use convex::prepare::prepare;
-use libc::STDOUT_FILENO;
-use list::{next_line, next_word, number, word_end};
+use list::{file_name, next_line, next_word, number, word_end};
+use reading::read_full;
 use report::{write_answer, write_area};
+use std::io::Write;
+use std::rt::Files;
+use std::{fs, io};
 use words::field::wide;
 use words::section::fill;
 
@@ -21,66 +25,78 @@ fn room() -> [u16; 32000]
     [0u16; 32000]
 }
 
+// Room for a map, and for the list of cases: what a longer one has past it is not read.
+fn byte_room() -> [u8; 65536]
+    ensures { length result ≡ 65536 }
+{
+    [0u8; 65536]
+}
+
 // Prepares the map in the area, and writes the answer and what stands in the area then.
-fn run_in(map: &[u8], area: &mut [u16], before: u16) {
+fn run_in(out: &mut impl Write, map: &[u8], area: &mut [u16], before: u16) -> io::Result<()> {
     let words = area.len();
     fill(area, 0, words, before);
     let answer = prepare(map, area);
-    write_answer(answer);
-    write_area(map, area);
+    write_answer(out, answer)?;
+    write_area(out, map, area)
 }
 
 // Lends an area of just so many words.
-fn run_map(map: &[u8], words: usize, before: u16) {
+fn run_map(out: &mut impl Write, map: &[u8], words: usize, before: u16) -> io::Result<()> {
     if words > 32000 {
-        io::write_all(STDOUT_FILENO, b"more words than there is room for\n");
-        return;
+        return writeln!(out, "more words than there is room for");
     }
     let mut room = room();
-    run_in(map, &mut room[0..words], before);
+    run_in(out, map, &mut room[..words], before)
 }
 
 // Reads the map's file.
-fn run_file(name: &[u8], words: usize, before: u16) {
-    let file = os::open_read(name);
-    if file < 0 {
-        io::write_all(STDOUT_FILENO, b"no such map\n");
-        return;
-    }
-    let mut bytes = io::large_buffer();
-    let count = io::read_full(file, &mut bytes);
-    libc::close(file);
-    run_map(&bytes[..count], words, before);
+fn run_file<R: Files>(
+    rt: &R,
+    out: &mut impl Write,
+    name: &str,
+    words: usize,
+    before: u16,
+) -> io::Result<()> {
+    let Ok(mut file) = fs::open(rt, name) else {
+        return writeln!(out, "no such map");
+    };
+    let mut bytes = byte_room();
+    let count = read_full(&mut file, &mut bytes)?;
+    run_map(out, &bytes[..count], words, before)
 }
 
 // Runs the case of a line; what is written stands between that line and an empty one.
-fn run_line(line: &[u8]) {
-    io::write_all(STDOUT_FILENO, line);
+fn run_line<R: Files>(rt: &R, out: &mut impl Write, line: &[u8]) -> io::Result<()> {
+    out.write_all(line)?;
     let name_end = word_end(line, 0);
     let words = next_word(line, name_end);
     let words_end = word_end(line, words);
     let before = next_word(line, words_end);
     let before_end = word_end(line, before);
     run_file(
-        &line[0..name_end],
+        rt,
+        out,
+        file_name(&line[..name_end]),
         wide(number(&line[words..words_end])),
         number(&line[before..before_end]),
-    );
-    io::write_all(STDOUT_FILENO, b"\n");
+    )?;
+    out.write_all(b"\n")
 }
 
-fn run_lines(list: &[u8]) {
+fn run_lines<R: Files>(rt: &R, out: &mut impl Write, list: &[u8]) -> io::Result<()> {
     let mut at = 0;
     while at < list.len() {
         let end = next_line(list, at);
-        run_line(&list[at..end]);
+        run_line(rt, out, &list[at..end])?;
         at = end;
     }
+    Ok(())
 }
 
 // Runs every case of the list on standard input.
-pub fn run() {
-    let mut list = io::large_buffer();
-    let count = io::read_full(libc::STDIN_FILENO, &mut list);
-    run_lines(&list[..count]);
+pub fn run<R: Files + Input + Print>(rt: &R) -> io::Result<()> {
+    let mut list = byte_room();
+    let count = read_full(&mut rt.reader(), &mut list)?;
+    run_lines(rt, &mut io::writer(rt), &list[..count])
 }

@@ -1,5 +1,5 @@
 // The list of cases: its lines, their words, and the numbers among these. Any bytes are taken.
-ghost use Rattle.std.specs.Prelude.{◌≡◌, ◌≤◌, ◌<◌, ◌%◌, length};
+ghost use Rattle.std.specs.Prelude.{◌≡◌, ◌≤◌, ◌<◌, ◌%◌, [], length, IsUtf8};
 ghost use Rattle.prepare_cases.specs.Number.{number_of};
 
 // Where the line after the one at `at` starts, or the list's end.
@@ -43,6 +43,14 @@ pub fn next_word(line: &[u8], end: usize) -> usize
     end + 1
 }
 
+// A word as a file's name. One that is no text is taken as the empty one: neither names a file.
+pub fn file_name(word: &[u8]) -> &str
+    ensures text { IsUtf8 word.now → result.now ≡ word.now }
+    ensures none { ¬ (IsUtf8 word.now) → result.now ≡ [] }
+{
+    str::from_utf8(word).unwrap_or("")
+}
+
 // The number that a decimal digit stands for.
 fn digit(x: u8) -> usize
     ensures { result ≡ x % 16 }
@@ -55,10 +63,8 @@ pub fn number(word: &[u8]) -> u16
     ensures { result ≡ number_of word.now }
 {
     let mut value: usize = 0;
-    let mut i = 0;
-    while i < word.len() {
-        value = (value * 10 + digit(word[i])) % 65536;
-        i += 1;
+    for x in word {
+        value = (value * 10 + digit(*x)) % 65536;
     }
     value as u16
 }

@@ -1,5 +1,8 @@
 // Runs the stored cases of preparing.
 #![tactic(auto)]
-fn main() {
-    prepare_cases::run();
+
+use std::io;
+
+fn main(rt: HostRuntime) -> io::Result<()> {
+    prepare_cases::run(&rt)
 }

@@ -2,9 +2,22 @@
 // input, and what the case shows. Each is run by the whole path of its program; its line stands before what the program prints, and an empty line
 // after it.
 #![tactic(auto)]
+
+ghost use Rattle.std.specs.Prelude.{◌≡◌, length};
+
 use asking::Program;
-use libc::STDOUT_FILENO;
-use prepare_cases::list::{next_line, next_word, word_end};
+use prepare_cases::list::{file_name, next_line, next_word, word_end};
+use reading::read_full;
+use std::io::Write;
+use std::rt::Files;
+use std::{fs, io};
+
+// Room for the list of cases.
+fn list_room() -> [u8; 4096]
+    ensures { length result ≡ 4096 }
+{
+    [0u8; 4096]
+}
 
 // The program that a line names: `why`, or else `ask`.
 fn program_of(line: &[u8]) -> Program {
@@ -17,39 +30,49 @@ fn program_of(line: &[u8]) -> Program {
 }
 
 // Runs a program on a map's file, which may be missing, and on a file for its input, which must be there.
-fn run_files(program: Program, map: &[u8], input: &[u8]) {
-    let file = os::open_read(input);
-    if file < 0 {
-        io::write_all(STDOUT_FILENO, b"no such input\n");
-        return;
-    }
-    asking::run_on(program, map, file);
-    libc::close(file);
+fn run_files<R: Files>(
+    rt: &R,
+    out: &mut impl Write,
+    program: Program,
+    map: &str,
+    input: &str,
+) -> io::Result<()> {
+    let Ok(mut file) = fs::open(rt, input) else {
+        return writeln!(out, "no such input");
+    };
+    asking::run_on(rt, program, map, &mut file, out)
 }
 
 // Runs the case of a line.
-fn run_line(line: &[u8]) {
-    io::write_all(STDOUT_FILENO, line);
+fn run_line<R: Files>(rt: &R, out: &mut impl Write, line: &[u8]) -> io::Result<()> {
+    out.write_all(line)?;
     let program = program_of(line);
     let map = next_word(line, word_end(line, 0));
     let map_end = word_end(line, map);
     let input = next_word(line, map_end);
     let input_end = word_end(line, input);
-    run_files(program, &line[map..map_end], &line[input..input_end]);
-    io::write_all(STDOUT_FILENO, b"\n");
+    run_files(
+        rt,
+        out,
+        program,
+        file_name(&line[map..map_end]),
+        file_name(&line[input..input_end]),
+    )?;
+    out.write_all(b"\n")
 }
 
-fn run_lines(list: &[u8]) {
+fn run_lines<R: Files>(rt: &R, out: &mut impl Write, list: &[u8]) -> io::Result<()> {
     let mut at = 0;
     while at < list.len() {
         let end = next_line(list, at);
-        run_line(&list[at..end]);
+        run_line(rt, out, &list[at..end])?;
         at = end;
     }
+    Ok(())
 }
 
-fn main() {
-    let mut list = io::buffer();
-    let count = io::read_full(libc::STDIN_FILENO, &mut list);
-    run_lines(&list[..count]);
+fn main(rt: HostRuntime) -> io::Result<()> {
+    let mut list = list_room();
+    let count = read_full(&mut rt.reader(), &mut list)?;
+    run_lines(&rt, &mut io::writer(&rt), &list[..count])
 }

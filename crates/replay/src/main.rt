@@ -1,5 +1,8 @@
 // Holds the port against the recorded answers of the Rust.
 #![tactic(auto)]
-fn main() {
-    replaying::run();
+
+use std::io;
+
+fn main(rt: HostRuntime) -> io::Result<()> {
+    replaying::run(&rt)
 }

@@ -1,13 +1,17 @@
 // Recorded answers, replayed: `answers.txt` has a question and its answer on each line, in decimal numbers, and its head says how it was made and
 // what its lines mean. Answers are the Rust's, refusals a plain reading of 01. Every call is asked again, and its answer held against the recorded one.
 #![tactic(auto)]
+
 mod lent;
 mod turns;
 
 ghost use Rattle.std.specs.Prelude.{◌≡◌, length};
 
 use lent::area_room;
-use libc::STDOUT_FILENO;
+use reading::read_full;
+use std::io::Write;
+use std::rt::Files;
+use std::{fs, io};
 use tallying::{count_turn, tally, write_tally};
 use text::parts::line_end;
 use turns::{Turn, map_room, replay_line, start, word_room};
@@ -20,26 +24,32 @@ fn file_room() -> [u8; 400000]
 }
 
 // Says which line differs, by its number from 1.
-fn write_differing(number: usize) {
-    io::write_all(STDOUT_FILENO, b"line ");
-    io::print_decimal(STDOUT_FILENO, number as u64);
-    io::write_all(STDOUT_FILENO, b" differs\n");
+fn write_differing(out: &mut impl Write, number: usize) -> io::Result<()> {
+    writeln!(out, "line {number} differs")
 }
 
 // Counts a turn, unless its line belongs to the head, and says if it differs.
-fn tell(turn: Turn, number: usize, asked: &mut [usize], differing: &mut [usize]) {
+fn tell(
+    out: &mut impl Write,
+    turn: Turn,
+    number: usize,
+    asked: &mut [usize],
+    differing: &mut [usize],
+) -> io::Result<()> {
     if turn.silent {
-        return;
+        return Ok(());
     }
     count_turn(asked, turn.kind);
     if !turn.agrees {
         count_turn(differing, turn.kind);
-        write_differing(number);
+        write_differing(out, number)?;
     }
+    Ok(())
 }
 
 // Replays line by line, with rooms for a line's words, the map, its area and what that must be, and answers the checksum.
 fn replay_lines(
+    out: &mut impl Write,
     file: &[u8],
     words: &mut [u16],
     map: &mut [u8],
@@ -47,7 +57,7 @@ fn replay_lines(
     kept: &mut [u16],
     asked: &mut [usize],
     differing: &mut [usize],
-) -> usize {
+) -> io::Result<usize> {
     let mut turn = start();
     let mut at = 0;
     let mut number: usize = 0;
@@ -55,14 +65,14 @@ fn replay_lines(
         let end = line_end(file, at);
         turn = replay_line(&file[at..end], turn, words, map, area, kept);
         number += 1;
-        tell(turn, number, asked, differing);
+        tell(out, turn, number, asked, differing)?;
         at = end + 1;
     }
-    turn.sum
+    Ok(turn.sum)
 }
 
 // Replays the whole file, and writes what was counted.
-fn replay(file: &[u8]) {
+fn replay(out: &mut impl Write, file: &[u8]) -> io::Result<()> {
     let mut words = word_room();
     let mut map = map_room();
     let mut area = area_room();
@@ -70,6 +80,7 @@ fn replay(file: &[u8]) {
     let mut asked = tally();
     let mut differing = tally();
     let sum = replay_lines(
+        out,
         file,
         &mut words,
         &mut map,
@@ -77,22 +88,18 @@ fn replay(file: &[u8]) {
         &mut kept,
         &mut asked,
         &mut differing,
-    );
-    write_tally(&asked, &differing);
-    io::write_all(STDOUT_FILENO, b"checksum ");
-    io::print_decimal(STDOUT_FILENO, sum as u64);
-    io::write_all(STDOUT_FILENO, b"\n");
+    )?;
+    write_tally(out, &asked, &differing)?;
+    writeln!(out, "checksum {sum}")
 }
 
 // Replays the file of answers.
-pub fn run() {
-    let file = os::open_read(b"answers.txt");
-    if file < 0 {
-        io::write_all(STDOUT_FILENO, b"no answers\n");
-        return;
-    }
+pub fn run<R: Files + Print>(rt: &R) -> io::Result<()> {
+    let mut out = io::writer(rt);
+    let Ok(mut file) = fs::open(rt, "answers.txt") else {
+        return writeln!(out, "no answers");
+    };
     let mut bytes = file_room();
-    let count = io::read_full(file, &mut bytes);
-    libc::close(file);
-    replay(&bytes[..count]);
+    let count = read_full(&mut file, &mut bytes)?;
+    replay(&mut out, &bytes[..count])
 }

@@ -55,10 +55,8 @@ fn add_words(before: usize, words: &[u16]) -> usize
     ensures { result ≡ summed (before % 4294967291) words.now }
 {
     let mut sum: usize = before % 4294967291;
-    let mut i = 0;
-    while i < words.len() {
-        sum = (sum * 257 + wide(words[i])) % 4294967291;
-        i += 1;
+    for word in words {
+        sum = (sum * 257 + wide(*word)) % 4294967291;
     }
     sum
 }

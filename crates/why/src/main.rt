@@ -2,7 +2,8 @@
 #![tactic(auto)]
 
 use asking::Program;
+use std::io;
 
-fn main() {
-    asking::run(Program::Why);
+fn main(rt: HostRuntime) -> io::Result<()> {
+    asking::run(&rt, Program::Why)
 }
