@@ -66,11 +66,11 @@ fn line_room() -> [u8; 3200]
     [0u8; 3200]
 }
 
-// Reads the map's file; one that is missing counts as no bytes.
-fn read_steps<R: Files>(rt: &R, name: &str, room: &mut [u8]) -> io::Result<usize>
+// Reads the map's file; one that is missing counts as no bytes, and a name that is no text names none.
+fn read_steps<R: Files>(rt: &R, name: &[u8], room: &mut [u8]) -> io::Result<usize>
     ensures { IfOk result (λ size. size ≤ length room.new) }
 {
-    let Ok(mut file) = fs::open(rt, name) else {
+    let Ok(mut file) = fs::open(rt, str::from_utf8(name).unwrap_or("")) else {
         return Ok(0);
     };
     read_full(&mut file, room)
@@ -142,7 +142,7 @@ fn answer_input<I: Read, W: Write>(
 pub fn run_on<R: Files, I: Read, W: Write>(
     rt: &R,
     program: Program,
-    name: &str,
+    name: &[u8],
     from: &mut I,
     writer: &mut W,
 ) -> io::Result<()>
@@ -159,7 +159,7 @@ pub fn run<R: Files + Input + Print>(rt: &R, program: Program) -> io::Result<()>
     run_on(
         rt,
         program,
-        "steps.pgt",
+        b"steps.pgt",
         &mut rt.reader(),
         &mut io::writer(rt),
     )

@@ -34,7 +34,7 @@ fn run_files<R: Files>(
     rt: &R,
     out: &mut impl Write,
     program: Program,
-    map: &str,
+    map: &[u8],
     input: &str,
 ) -> io::Result<()> {
     let Ok(mut file) = fs::open(rt, input) else {
@@ -55,7 +55,7 @@ fn run_line<R: Files>(rt: &R, out: &mut impl Write, line: &[u8]) -> io::Result<(
         rt,
         out,
         program,
-        file_name(&line[map..map_end]),
+        &line[map..map_end],
         file_name(&line[input..input_end]),
     )?;
     out.write_all(b"\n")
