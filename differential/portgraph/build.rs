@@ -1,12 +1,11 @@
 //! Lays the given source and our glue side by side in the build's own folder.
 //!
-//! Every file there is a symbolic link, so nothing of the source is copied, into the repository or elsewhere. The
-//! source is not changed either: its `lib.rs` finds each module it names, the missing ones among our glue.
+//! Every file there is a copy in the build's folder, which is not part of the repository: the gate takes no links
+//! below the checkout. The source is not changed: its `lib.rs` finds each module it names, the missing ones among our glue.
 
 use std::env;
 use std::error::Error;
 use std::fs;
-use std::os::unix::fs::symlink;
 use std::path::{Path, PathBuf};
 
 /// Where the source stands unless `PORTGRAPH_SRC` says otherwise, seen from the repository's root.
@@ -45,7 +44,7 @@ fn given_source(package: &Path) -> Result<PathBuf, Box<dyn Error>> {
     Ok(source.canonicalize()?)
 }
 
-/// Links every file below `from` to the same place below `to`. Two files at one place are an error, so glue never
+/// Copies every file below `from` to the same place below `to`. Two files at one place are an error, so glue never
 /// stands in for a file that was given.
 fn lay_out(from: &Path, to: &Path) -> Result<(), Box<dyn Error>> {
     fs::create_dir_all(to)?;
@@ -56,7 +55,10 @@ fn lay_out(from: &Path, to: &Path) -> Result<(), Box<dyn Error>> {
         if entry.path().is_dir() {
             lay_out(&entry.path(), &target)?;
         } else {
-            symlink(entry.path(), &target).map_err(|error| format!("{}: {error}", target.display()))?;
+            if target.exists() {
+                return Err(format!("{}: there are two of it", target.display()).into());
+            }
+            fs::copy(entry.path(), &target).map_err(|error| format!("{}: {error}", target.display()))?;
         }
     }
     Ok(())
