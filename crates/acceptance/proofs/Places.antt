@@ -1,16 +1,15 @@
--- The test of the order: the last place of each word is kept, and the order holds each node once exactly if each word stands at its kept place.
+-- The test of the order: it holds each node once exactly if each word stands at its kept place.
 -- Rests on lists.Places, lists.First and groups.Bags.
 use Prim.Native.Nat.{ℕ, suc, ◌+◌, ◌≤◌, ◌<◌}
 use native.Mathlib.Decide.{ℕ_discrete, dec_lt}
 use native.Mathlib.Omega.{arith}
-use borrow.Author.Count.{below_none, below_more}
 use borrow.Author.Tests.{eq-eqb, ne_eqb, lt-ltb, le-ltb}
 use mathlib.Core.Path.{◌≡◌, sym, ap, ◌∙◌, subst}
 use mathlib.Core.Bool.{Bool, true, false, not}
 use mathlib.Core.List.{List, [], ◌∷◌}
 use lib.Dec.{T, eqb, ltb}
-use lib.ListN.{length, get_or, take, set}
-use lib.Seq.{get_or-set_same, get_or-set_other, get_or-take, length-take-le, take_all}
+use lib.ListN.{length, get_or, take}
+use lib.Seq.{get_or-take, length-take-le, take_all}
 use Rattle.lists.specs.Lists.{upto, one, all, times}
 use Rattle.lists.specs.Found.{at}
 use Rattle.lists.proofs.Tests.{Says, says_yes_lem, says_no_lem, eq_says, every-says}
@@ -23,77 +22,7 @@ use Rattle.lists.proofs.Upto.{length_from}
 use Rattle.paper.specs.Map.{link_from, link_to}
 use Rattle.paper.specs.Order.{place_in}
 use Rattle.groups.proofs.Bags.{known-below, others, as_often}
-use Rattle.acceptance.specs.Places.{EachOnce, KeptUpto, Unknown, Kept, PlacesKnown, at_place}
-
--- ---- keeping the places
-
-pub kept-none : (order places : List ℕ) → KeptUpto order 0 places
-kept-none order places = record { below = below_none _; late = below_none _; early = below_none _; holds = below_none _ }
-
-module _ {order : List ℕ} {i : ℕ} {places : List ℕ} (k : KeptUpto order i places) (inside : i < length order)
-    {v : ℕ} (is : v ≡ get_or order i 0) (low : v < length order) (room : length order ≤ length places) where
-  -- the place kept for word j, after one more
-  module _ (j : ℕ) (h : j < i + 1) where
-    new_or_old : Dec (get_or order j 0 ≡ v) → (get_or order j 0 ≡ v → get_or (set places v i) (get_or order j 0) 0 ≡ i)
-        × ((get_or order j 0 ≡ v → ⊥) → (j < i) × (get_or (set places v i) (get_or order j 0) 0 ≡ get_or places (get_or order j 0) 0))
-    new_or_old d = (
-      λ e. ap (λ (w : ℕ). get_or (set places v i) w 0) e ∙ get_or-set_same places v i 0 (omega arith),
-      λ ne. (before (dec_lt j i) ne, get_or-set_other places v (get_or order j 0) i 0 ne),
-    )
-      where
-        same : j ≡ i → get_or order j 0 ≡ v
-        same e = ap (λ (m : ℕ). get_or order m 0) e ∙ sym is
-
-        before : Dec (j < i) → (get_or order j 0 ≡ v → ⊥) → j < i
-        before (yes l) ne = l
-        before (no l) ne = absurd (ne (same (omega arith)))
-
-    module _ (d : Dec (get_or order j 0 ≡ v)) where
-      late-next : j ≤ get_or (set places v i) (get_or order j 0) 0
-      late-next = go d
-        where
-          go : Dec (get_or order j 0 ≡ v) → j ≤ get_or (set places v i) (get_or order j 0) 0
-          go (yes e) = omega (arith, (new_or_old d).0 e)
-          go (no ne) = let old = (new_or_old d).1 ne in omega (arith, old.1, k.late j old.0)
-
-      early-next : get_or (set places v i) (get_or order j 0) 0 < i + 1
-      early-next = go d
-        where
-          go : Dec (get_or order j 0 ≡ v) → get_or (set places v i) (get_or order j 0) 0 < i + 1
-          go (yes e) = omega (arith, (new_or_old d).0 e)
-          go (no ne) = let old = (new_or_old d).1 ne in omega (arith, old.1, k.early j old.0)
-
-      holds-next : get_or order (get_or (set places v i) (get_or order j 0) 0) 0 ≡ get_or order j 0
-      holds-next = go d
-        where
-          go : Dec (get_or order j 0 ≡ v) → get_or order (get_or (set places v i) (get_or order j 0) 0) 0 ≡ get_or order j 0
-          go (yes e) = ap (λ (p : ℕ). get_or order p 0) ((new_or_old d).0 e) ∙ sym is ∙ sym e
-          go (no ne) = let old = (new_or_old d).1 ne in ap (λ (p : ℕ). get_or order p 0) old.1 ∙ k.holds j old.0
-
-  pub kept_next : KeptUpto order (i + 1) (set places v i)
-  kept_next =
-      record {
-        below = below_more _ i k.below (omega (arith, is));
-        late = λ j h. late-next j h (ℕ_discrete (get_or order j 0) v);
-        early = λ j h. early-next j h (ℕ_discrete (get_or order j 0) v);
-        holds = λ j h. holds-next j h (ℕ_discrete (get_or order j 0) v);
-      }
-
-pub all-kept : {order : List ℕ} {i : ℕ} {places : List ℕ} → KeptUpto order i places → i ≤ length order → length order ≤ i → Kept order true places
-all-kept {order} {i} k low high = record {
-  kept = λ t.
-      record {
-        below = λ j h. k.below j (omega arith);
-        late = λ j h. k.late j (omega arith);
-        early = λ j h. omega (arith, k.early j (omega arith));
-        holds = λ j h. k.holds j (omega arith);
-      };
-  stray = λ t. absurd t;
-}
-
-pub strays : (order places : List ℕ) {i v : ℕ} → i < length order → v ≡ get_or order i 0 → length order ≤ v → Kept order false places
-strays order places {i} h is high =
-    record { kept = λ t. absurd t; stray = λ t. record { which = i; inside = h; high = omega (arith, is) } }
+use Rattle.acceptance.specs.Places.{EachOnce, KeptUpto, Unknown, PlacesKnown, at_place}
 
 -- ---- the test at the kept places
 
@@ -104,9 +33,6 @@ module _ (order places : List ℕ) where
       sym
       (all_false (at_place order places) (length order) i h
       (ne_eqb (get_or places (get_or order i 0) 0) i (λ e. ne (kept ∙ ap (λ (w : ℕ). get_or places w 0) is ∙ e))))
-
-  pub place_same : (i : ℕ) {v p : ℕ} → v ≡ get_or order i 0 → p ≡ get_or places v 0 → p ≡ i → at_place order places i ≡ true
-  place_same i is kept e = eq-eqb (get_or places (get_or order i 0) 0) i (sym (ap (λ (w : ℕ). get_or places w 0) is) ∙ sym kept ∙ e)
 
 -- ---- the test of the links
 

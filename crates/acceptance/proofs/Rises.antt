@@ -1,7 +1,6 @@
 -- A rising list by its places, and the answers of the test along a line.
 -- Rests on the definition of a rising list.
-use Prim.Native.Nat.{ℕ, zero, suc, ◌+◌, ◌-◌, ◌≤◌, ◌<◌}
-use native.Mathlib.Decide.{ℕ_discrete}
+use Prim.Native.Nat.{ℕ, zero, suc, ◌-◌, ◌≤◌, ◌<◌}
 use native.Mathlib.Omega.{arith}
 use mathlib.Core.Path.{◌≡◌, ap}
 use mathlib.Core.Bool.{true, false}
@@ -42,23 +41,6 @@ module _ (g : ℕ → ℕ) where
           ap g is-v,
           ap (λ (j : ℕ). g (get_or xs j 0)) place,
         ))
-
-    pub rise : g u < g v → RisesUpto xs i → RisesUpto xs (i + 1)
-    rise lt before j h = go (ℕ_discrete (suc j) i)
-      where
-        go : Dec (suc j ≡ i) → g (get_or xs j 0) < g (get_or xs (suc j) 0)
-        go (yes e) =
-            omega (
-              arith,
-              ap g is-u,
-              ap g is-v,
-              ap (λ (m : ℕ). g (get_or xs m 0)) e,
-              ap (λ (m : ℕ). g (get_or xs m 0)) (last j e),
-            )
-          where
-            last : (j : ℕ) → suc j ≡ i → j ≡ i - 1
-            last j e = omega arith
-        go (no ne) = before j (omega arith)
 
   pub rose : (xs : List ℕ) {i : ℕ} → length xs ≤ i → RisesUpto xs i → Says true (Rising (map g xs))
   rose xs h before = says_yes_lem (rising-from xs (λ j l. before j (omega arith)))

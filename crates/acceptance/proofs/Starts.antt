@@ -2,13 +2,17 @@
 -- Rests on lists.AllAny.
 use Prim.Native.Nat.{ℕ, suc, ◌+◌, ◌≤◌, ◌<◌}
 use native.Mathlib.Omega.{arith}
-use borrow.Author.Tests.{lt-ltb, le-ltb, eq-eqb, ne_eqb}
-use mathlib.Core.Path.{◌≡◌, sym, ap, ap₂, ◌∙◌}
+use borrow.Author.Tests.{le-ltb, eq-eqb, ne_eqb}
+use mathlib.Core.Path.{◌≡◌, refl, sym, ap, ap₂, ◌∙◌}
 use mathlib.Core.Bool.{Bool, true, false, ◌&&◌, and-false}
-use mathlib.Core.List.{List}
+use mathlib.Core.List.{List, [], ◌∷◌, map}
 use lib.Dec.{ltb, eqb}
-use lib.ListN.{get_or}
+use lib.ListN.{length, get_or}
+use lib.Seq.{ext_get_or}
+use Rattle.std.specs.List.{list_all}
 use Rattle.lists.specs.Lists.{all, upto}
+use Rattle.lists.proofs.Sections.{part, length_part, get_d_part}
+use Rattle.lists.proofs.Upto.{length-table, get_or-table}
 use Rattle.lists.proofs.AllAny.{all_true, all_false}
 use Rattle.paper.specs.Accepted.{starts_well}
 
@@ -34,14 +38,27 @@ module _ (start : ℕ → ℕ) (n end : ℕ) where
         sym
         (ap₂ (λ (s t : Bool). s && t && eqb (start n) end) (eq-eqb (start 0) 0 begins) (all_true rise n h))
 
--- ---- a row of entries
+-- ---- a row of entries, lent as a list of its own
 
-module _ (a : List ℕ) (at count bound : ℕ) where
-  pub entry-high : {i x : ℕ} → i < count → x ≡ get_or a (at + i) 0 → bound ≤ x → false ≡ all (λ j. ltb (get_or a (at + j) 0) bound) (upto count)
-  entry-high {i} h e high = sym (all_false (λ j. ltb (get_or a (at + j) 0) bound) count i h (le-ltb (get_or a (at + i) 0) bound (omega (arith, e))))
+list_all-map : (f : ℕ → Bool) (g : ℕ → ℕ) (xs : List ℕ) → list_all f (map g xs) ≡ all (λ j. f (g j)) xs
+list_all-map f g [] = refl
+list_all-map f g (x ∷ xs) = ap (λ (t : Bool). f (g x) && t) (list_all-map f g xs)
 
-  pub entry-low : (i : ℕ) {x : ℕ} → x ≡ get_or a (at + i) 0 → x < bound → ltb (get_or a (at + i) 0) bound ≡ true
-  entry-low i e low = lt-ltb (get_or a (at + i) 0) bound (omega (arith, e))
+part_table : (a : List ℕ) (at n : ℕ) → at + n ≤ length a → part a at n ≡ map (λ j. get_or a (at + j) 0) (upto n)
+part_table a at n fits =
+    ext_get_or 0 (part a at n) (map (λ j. get_or a (at + j) 0) (upto n)) (long ∙ sym (length-table (λ j. get_or a (at + j) 0) n))
+    (λ i h. let lt : i < n = omega (arith, long) in get_d_part a at n i 0 lt ∙ sym (get_or-table (λ j. get_or a (at + j) 0) n i 0 lt))
+  where
+    long : length (part a at n) ≡ n
+    long = length_part a at n fits
+
+pub entries-lent : (a : List ℕ) (at n bound : ℕ) {k : ℕ} {r : Bool} → k ≡ n → at + n ≤ length a → r ≡ list_all (λ x. ltb x bound) (part a at k)
+    → r ≡ all (λ j. ltb (get_or a (at + j) 0) bound) (upto n)
+entries-lent a at n bound same fits e =
+    e
+    ∙ ap (λ (m : ℕ). list_all (λ x. ltb x bound) (part a at m)) same
+    ∙ ap (list_all (λ x. ltb x bound)) (part_table a at n fits)
+    ∙ list_all-map (λ x. ltb x bound) (λ j. get_or a (at + j) 0) (upto n)
 
 -- ---- a start list in the area
 
@@ -66,9 +83,6 @@ module _ (a : List ℕ) (at count end : ℕ) where
 
   pub starts_fall : get_or a at 0 ≡ 0 → {i : ℕ} → i < count → get_or a (at + i + 1) 0 ≤ get_or a (at + i) 0 → false ≡ starts_well start_at count end
   starts_fall e {i} h le = falls_back start_at count end (first_at ∙ e) i h (omega (arith, next_at i))
-
-  pub starts_rise : (i : ℕ) → get_or a (at + i) 0 < get_or a (at + i + 1) 0 → ltb (start_at i) (start_at (suc i)) ≡ true
-  starts_rise i lt = lt-ltb (start_at i) (start_at (suc i)) (omega (arith, next_at i))
 
   pub starts-end : get_or a at 0 ≡ 0 → {i : ℕ} → i ≤ count → count ≤ i → ((j : ℕ) → j < i → ltb (start_at j) (start_at (suc j)) ≡ true)
       → {x : ℕ} → x ≡ get_or a (at + count) 0 → eqb x end ≡ starts_well start_at count end

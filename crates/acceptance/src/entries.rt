@@ -6,7 +6,6 @@ ghost use Rattle.paper.specs.Accepted.{starts_well};
 ghost use Rattle.agreement.specs.Tables.{Known, Sized};
 
 use tables::Layout;
-use words::field::wide;
 
 // Whether the start list at `at`, with `count` entries after the first, begins at 0, strictly rises and ends at `end`.
 fn starts_well(area: &[u16], at: usize, count: usize, end: usize) -> bool
@@ -16,14 +15,12 @@ fn starts_well(area: &[u16], at: usize, count: usize, end: usize) -> bool
     if area[at] != 0 {
         return false;
     }
-    let mut i = 0;
-    while i < count {
+    for i in 0..count {
         if area[at + i] >= area[at + i + 1] {
             return false;
         }
-        i += 1;
     }
-    wide(area[at + count]) == end
+    usize::from(area[at + count]) == end
 }
 
 // Whether each of the `count` words from `at` on is below `bound`.
@@ -31,14 +28,7 @@ fn entries_below(area: &[u16], at: usize, count: usize, bound: usize) -> bool
     requires { at + count ≤ length area.now }
     ensures { result ≡ all (λ i. ltb (get_or area.now (at + i) 0) bound) (upto count) }
 {
-    let mut i = 0;
-    while i < count {
-        if wide(area[at + i]) >= bound {
-            return false;
-        }
-        i += 1;
-    }
-    true
+    area[at..at + count].iter().all(|x| usize::from(*x) < bound)
 }
 
 // Whether both start lists are as 01 says, and the entries are below k and the number of nodes.

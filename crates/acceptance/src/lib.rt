@@ -15,14 +15,13 @@ use entries::tables_known;
 use lines::lines_rise;
 use order::order_forward;
 use tables::Layout;
-use words::field::wide;
 
 // Whether the tables in the area are accepted for a map; any words may stand there. It reads what is in use alone.
 pub fn accepted(b: &[u8], at: Layout, area: &[u16]) -> bool
     requires { Testable b.now area.now at }
     ensures { result ≡ accepted_tables b.now area.now }
 {
-    let k = wide(area[0]);
+    let k = usize::from(area[0]);
     if k > at.sizes.links + at.sizes.nodes {
         return false;
     }

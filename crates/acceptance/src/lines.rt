@@ -6,7 +6,6 @@ ghost use Rattle.groups.specs.Groups.{Known};
 ghost use Rattle.agreement.specs.Tables.{Rise, Tables};
 
 use tables::Layout;
-use words::field::wide;
 use words::section::word_at;
 
 // Whether the positions strictly rise along a line's nodes.
@@ -14,14 +13,12 @@ fn rises_along(line: &[u16], positions: &[u16]) -> bool
     requires { Known (length positions.now) line.now }
     ensures { Says result (Rising (map (λ v. get_or positions.now v 0) line.now)) }
 {
-    let mut i = 1;
-    while i < line.len() {
-        let u = wide(line[i - 1]);
-        let v = wide(line[i]);
+    for i in 1..line.len() {
+        let u = usize::from(line[i - 1]);
+        let v = usize::from(line[i]);
         if positions[u] >= positions[v] {
             return false;
         }
-        i += 1;
     }
     true
 }
@@ -33,14 +30,12 @@ pub fn lines_rise(area: &[u16], at: Layout, k: usize) -> bool
 {
     let positions = at.positions;
     let positions_end = positions + at.sizes.nodes;
-    let mut x = 0;
-    while x < k {
+    for x in 0..k {
         let from = at.along + word_at(area, at.starts, x);
         let to = at.along + word_at(area, at.starts, x + 1);
         if !rises_along(&area[from..to], &area[positions..positions_end]) {
             return false;
         }
-        x += 1;
     }
     true
 }

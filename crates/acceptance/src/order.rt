@@ -9,14 +9,6 @@ ghost use Rattle.acceptance.specs.Places.{EachOnce, Kept, KeptUpto, Linking, Pla
 use stepmap::access::{link_from, link_to};
 use stepmap::read::Sizes;
 use tables::Layout;
-use words::field::wide;
-
-// A place for each node that a map may have.
-fn place_room() -> [u16; 512]
-    ensures { length result ≡ 512 }
-{
-    [0u16; 512]
-}
 
 // Stores the place of each of the n words of an order, while they are below n; a word that stands twice keeps its last place.
 fn keep_places(order: &[u16], places: &mut [u16]) -> bool
@@ -25,14 +17,12 @@ fn keep_places(order: &[u16], places: &mut [u16]) -> bool
     ensures { Kept order.now result places.new }
 {
     let n = order.len();
-    let mut i = 0;
-    while i < n {
-        let v = wide(order[i]);
+    for (i, word) in order.iter().enumerate() {
+        let v = usize::from(*word);
         if v >= n {
             return false;
         }
         places[v] = i as u16;
-        i += 1;
     }
     true
 }
@@ -42,13 +32,11 @@ fn at_places(order: &[u16], places: &[u16]) -> bool
     requires { PlacesKnown order.now places.now }
     ensures { result ≡ all (at_place order.now places.now) (upto (length order.now)) }
 {
-    let mut i = 0;
-    while i < order.len() {
-        let v = wide(order[i]);
-        if wide(places[v]) != i {
+    for (i, word) in order.iter().enumerate() {
+        let v = usize::from(*word);
+        if usize::from(places[v]) != i {
             return false;
         }
-        i += 1;
     }
     true
 }
@@ -72,14 +60,12 @@ fn links_forward(b: &[u8], sizes: Sizes, places: &[u16]) -> bool
     ensures { result
         ≡ all (λ k. ltb (get_or places.now (link_from b.now k) 0) (get_or places.now (link_to b.now k) 0)) (upto sizes.links) }
 {
-    let mut k = 0;
-    while k < sizes.links {
+    for k in 0..sizes.links {
         let from = link_from(b, sizes.nodes, k);
         let to = link_to(b, sizes.nodes, k);
         if places[from] >= places[to] {
             return false;
         }
-        k += 1;
     }
     true
 }
@@ -89,7 +75,8 @@ pub fn order_forward(b: &[u8], at: Layout, area: &[u16]) -> bool
     requires { Testable b.now area.now at }
     ensures { Says result (Ordered b.now area.now) }
 {
-    let mut places = place_room();
+    // a place for each node that a map may have
+    let mut places = [0u16; 512];
     let first = at.order;
     let end = first + at.sizes.nodes;
     if !each_once(&area[first..end], &mut places) {

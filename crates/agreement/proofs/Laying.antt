@@ -6,8 +6,8 @@ use native.Mathlib.Numerals.{add-one}
 use native.Mathlib.Omega.{arith}
 use mathlib.Core.Path.{◌≡◌, refl, sym, ap, ap₂, ◌∙◌}
 use mathlib.Core.List.{List, [], ◌∷◌, ◌++◌, map, flat_map, append-nil}
-use lib.ListN.{length, get_or, take, drop, set, length-append}
-use lib.Seq.{sets, slice, take-suc, take-add, drop-drop, take_all, length-take-le}
+use lib.ListN.{length, take, drop, set, length-append}
+use lib.Seq.{sets, slice, take-add, drop-drop}
 use lib.Dec.{eqb}
 use Rattle.lists.specs.Lists.{upto, times}
 use Rattle.lists.proofs.Sections.{part, sets-next}
@@ -15,15 +15,6 @@ use Rattle.lists.proofs.Upto.{upto-suc, count-append, flat_map-append, sets-upto
 use Rattle.groups.proofs.Picking.{part_slice}
 
 -- ---- word by word
-
-pub put_next : (room₀ words : List ℕ) (at : ℕ) {room : List ℕ} {i : ℕ} → i < length words → room ≡ sets room₀ at (take i words)
-    → set room (at + i) (get_or words i 0) ≡ sets room₀ at (take (i + 1) words)
-put_next room₀ words at {room} {i} h e =
-    sets-next room₀ at (take i words) (get_or words i 0 ∷ []) e (length-take-le i words (omega arith))
-    ∙ ap (sets room₀ at) (sym (take-suc words i 0 h) ∙ ap (λ (k : ℕ). take k words) (sym (add-one i)))
-
-pub all-put : (room₀ words : List ℕ) (at : ℕ) {room : List ℕ} {i : ℕ} → length words ≤ i → room ≡ sets room₀ at (take i words) → room ≡ sets room₀ at words
-all-put room₀ words at {i = i} h e = e ∙ ap (sets room₀ at) (take_all i words h)
 
 -- a table, filled from the front
 pub table-next : (f : ℕ → ℕ) (room₀ : List ℕ) {room : List ℕ} (k : ℕ) {v : ℕ} → v ≡ f k → room ≡ sets room₀ 0 (map f (upto k))

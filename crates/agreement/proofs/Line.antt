@@ -12,7 +12,7 @@ use lib.Seq.{sets, slice, take-take, drop-drop}
 use Rattle.lists.specs.Lists.{Rising}
 use Rattle.lists.proofs.Sections.{part, length_part, get_d_part}
 use Rattle.lists.proofs.Members.{map_below}
-use Rattle.lists.proofs.Tests.{Says, says_yes_lem, says_no_lem, granted, denied}
+use Rattle.lists.proofs.Tests.{Says, says_no_lem, granted, denied}
 use Rattle.groups.specs.Groups.{Known}
 use Rattle.groups.proofs.Bags.{known-below}
 use Rattle.groups.proofs.Picking.{part_slice}
@@ -163,10 +163,3 @@ module _ {a : List ℕ} {at : Layout} {k : ℕ} (t : Tables a at k) where
     backs-next tos₀ now now' =
         now'
         ∙ laid_next (pair_start t) (pairs_begin t) (λ y. drop 1 (nodes_on a at y)) k (back_long t) tos₀ x h now pair_start-is back_is
-
-  -- where a line starts
-  pub start_fits : {x f : ℕ} → x < k → f ≡ get_or a (at.starts + x) 0 → at.along + f ≤ length a
-  start_fits h is = omega (arith, is, line-rises t h, line-inside t h)
-
-  pub all_rise : {x : ℕ} → k ≤ x → Rise a at x → Says true (Rise a at k)
-  all_rise high rise = says_yes_lem (λ y hy. rise y (omega arith))

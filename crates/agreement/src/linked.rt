@@ -19,11 +19,9 @@ fn link_ends(b: &[u8], sizes: Sizes, froms: &mut [u16], tos: &mut [u16])
     ensures { (froms.new ≡ sets froms.old 0 (sources b.now sizes.links))
         × (tos.new ≡ sets tos.old 0 (targets b.now sizes.links)) }
 {
-    let mut k = 0;
-    while k < sizes.links {
+    for k in 0..sizes.links {
         froms[k] = link_from(b, sizes.nodes, k) as u16;
         tos[k] = link_to(b, sizes.nodes, k) as u16;
-        k += 1;
     }
 }
 
@@ -34,8 +32,7 @@ fn neighbours(area: &[u16], at: Layout, k: usize, froms: &mut [u16], tos: &mut [
     ensures { (froms.new ≡ sets froms.old 0 (fronts area.now at k))
         × (tos.new ≡ sets tos.old 0 (backs area.now at k)) }
 {
-    let mut x = 0;
-    while x < k {
+    for x in 0..k {
         let from = word_at(area, at.starts, x);
         let to = word_at(area, at.starts, x + 1);
         let first = at.along + from;
@@ -44,7 +41,6 @@ fn neighbours(area: &[u16], at: Layout, k: usize, froms: &mut [u16], tos: &mut [
         let last = end - 1;
         put_in(froms, from - x, &area[first..last]);
         put_in(tos, from - x, &area[second..end]);
-        x += 1;
     }
 }
 

@@ -10,7 +10,7 @@ use groups::{group_by, same_groups};
 use tables::Layout;
 use words::section::{fill, word_at};
 
-// A word for each entry that the lists of a map may have.
+// A word for each entry that the lists of a map may have. This size and the next two are said once for both tests.
 pub fn entry_room() -> [u16; 4608]
     ensures { length result ≡ 4608 }
 {
@@ -36,11 +36,7 @@ pub fn put_in(room: &mut [u16], at: usize, words: &[u16])
     requires { at + length words.now ≤ length room.old }
     ensures { room.new ≡ sets room.old at words.now }
 {
-    let mut i = 0;
-    while i < words.len() {
-        room[at + i] = words[i];
-        i += 1;
-    }
+    room[at..at + words.len()].copy_from_slice(words);
 }
 
 // Writes, for each entry of the lines' nodes, the number of its line.
@@ -49,12 +45,10 @@ fn line_numbers(area: &[u16], at: Layout, k: usize, numbers: &mut [u16])
     requires k_in_bounds { entry_count at k ≤ length numbers.old }
     ensures { numbers.new ≡ sets numbers.old 0 (line_numbers area.now at k) }
 {
-    let mut x = 0;
-    while x < k {
+    for x in 0..k {
         let from = word_at(area, at.starts, x);
         let to = word_at(area, at.starts, x + 1);
         fill(numbers, from, to - from, x as u16);
-        x += 1;
     }
 }
 

@@ -19,9 +19,8 @@ use Rattle.paper.specs.Text.{newline, lines_in, show_refused, say_lines, first_o
 use Rattle.paper.proofs.Promise.{never_answered}
 use Rattle.text.specs.Printed.{Put, first_line}
 use Rattle.text.proofs.Printed.{first-is, first_short}
-use Rattle.answers.specs.Said.{prepared_said}
-use Rattle.answers.specs.declared.Prepared.{Prepared}
-use Rattle.answers.specs.declared.Prepared.TheVariants.{Lines, Refused}
+use Rattle.refusals.specs.Said.{refused_by}
+use Rattle.refusals.specs.declared.Refusal.{Refusal}
 use Rattle.asking.specs.Standing.{prepared_area, Standing}
 use Rattle.asking.specs.Says.{Says}
 use Rattle.asking.specs.Printed.{Shown}
@@ -71,37 +70,23 @@ module _ (says : Says) (b input : List ℕ) where
 
 -- ---- as the program meets them: the map is within its length, and preparing has answered r
 
--- without lines preparing has refused
-never_lines : (r : Prepared) → ((k : ℕ) → r ≡ Lines k → ⊥) → (k : ℕ) → prepared_said r ≡ answered k → ⊥
-never_lines (Lines j) h k e = h j refl
-never_lines (Refused x) h k e = never_answered e
+module _ (b input a : List ℕ) {m : List ℕ} (small : length b ≤ 65000) (room : 31751 ≤ length a) where
+  said-there : {r : Answer ℕ} → record { answer = r; area = m } ≡ prepare b a → (prepare b (replicate (W b) 0)).answer ≡ r
+  said-there e = sym (ap (λ (left : Left ℕ). left.answer) e ∙ same_answer b a room)
 
-module _ (b input a : List ℕ) {m : List ℕ} (r : Prepared) (small : length b ≤ 65000) (room : 31751 ≤ length a)
-    (answered-so : record { answer = prepared_said r; area = m } ≡ prepare b a) where
-  said : prepared_said r ≡ (prepare b a).answer
-  said = ap (λ (left : Left ℕ). left.answer) answered-so
-
-  said-there : (prepare b (replicate (W b) 0)).answer ≡ prepared_said r
-  said-there = sym (said ∙ same_answer b a room)
-
-  pub refused_map : (says : Says) → ((k : ℕ) → r ≡ Lines k → ⊥) → output says b input ≡ refused_line (prepared_said r)
+  pub refused_map : (says : Says) (x : Refusal) → record { answer = refused_by x; area = m } ≡ prepare b a → output says b input ≡ refused_line (refused_by x)
   unfolding refused_line
-  refused_map says h = within says b input small ∙ go (prepared_said r) refl said-there
-    where
-      go : (x : Answer ℕ) → prepared_said r ≡ x → (prepare b (replicate (W b) 0)).answer ≡ x
-          → say_prepared says b input (prepare b (replicate (W b) 0)) ≡ refused_line x
-      go (refused n p) q e = by_refusal says b input (prepare b (replicate (W b) 0)) e
-      go (answered k) q e = absurd (never_lines r h k q)
+  refused_map says x e = within says b input small ∙ by_refusal says b input (prepare b (replicate (W b) 0)) (said-there e)
 
-  module _ {k : ℕ} (lines : r ≡ Lines k) where
+  module _ {k : ℕ} (lines : record { answer = answered k; area = m } ≡ prepare b a) where
     counted : (prepare b (replicate (W b) 0)).answer ≡ answered k
-    counted = said-there ∙ ap prepared_said lines
+    counted = said-there lines
 
     pub long-input : (says : Says) → 60000 < length input → output says b input ≡ show_refused 15 0 ++ (newline ∷ [])
     long-input says h = within says b input small ∙ by_long says b input (prepare b (replicate (W b) 0)) counted h
 
     counted-here : (prepare b a).answer ≡ answered k
-    counted-here = sym said ∙ ap prepared_said lines
+    counted-here = sym (ap (λ (left : Left ℕ). left.answer) lines)
 
     pub trailer : 12 ≤ length b
     trailer = trailer-there b a counted-here
@@ -116,7 +101,7 @@ module _ (b input a : List ℕ) {m : List ℕ} (r : Prepared) (small : length b 
           rest = λ says. rw count (within says b input small ∙ by_lists says b input (prepare b (replicate (W b) 0)) counted short);
           short = short;
           standing =
-              subst (Standing b) (sym (ap (λ (left : Left ℕ). left.area) answered-so))
+              subst (Standing b) (sym (ap (λ (left : Left ℕ). left.area) lines))
               (standing-there b a counted-here (same_answer b a room));
         }
 

@@ -1,7 +1,6 @@
 -- The line of output for a line of input: a bad text's refusal, or what is said of its list; and what `ask` says.
 -- Rests on Areas, text's Printed and paper's `say_line`.
-use Prim.Native.Nat.{ℕ, ◌-◌, ◌≤◌, ◌<◌}
-use native.Mathlib.Nat.{sub-zero}
+use Prim.Native.Nat.{ℕ, ◌≤◌, ◌<◌}
 use native.Mathlib.Omega.{arith}
 use mathlib.Core.Path.{◌≡◌, sym, ap, ap₂, ◌∙◌}
 use mathlib.Core.List.{List, [], ◌∷◌, ◌++◌}
@@ -12,9 +11,8 @@ use Rattle.paper.specs.Refusals.{Answer}
 use Rattle.paper.specs.Calls.{is_node_convex, topo_is_node_convex}
 use Rattle.paper.specs.Text.{newline, Read, list, bad, read_list, show_refused, say_line, ask_says}
 use Rattle.text.specs.Printed.{Put}
+use Rattle.std.proofs.Common.{Option, None, Some}
 use Rattle.text.specs.Lists.{read_said, how_many, ReadInto}
-use Rattle.text.specs.declared.reader.ListRead.{ListRead}
-use Rattle.text.specs.declared.reader.ListRead.TheVariants.{Numbers, Bad}
 use Rattle.text.proofs.Printed.{put_then}
 use Rattle.wording.specs.Shown.{both_checks}
 use Rattle.wording.proofs.Texts.{put_as, refused_line-short, both_short}
@@ -74,15 +72,14 @@ module _ (says : Says) {b a before after : List ℕ} (i : ℕ) {end : ℕ} where
 
 -- what the reader answered of the line
 
-module _ {line before after : List ℕ} {r : ListRead} (read : ReadInto line before after r) where
-  pub read_bad : r ≡ Bad → bad ≡ read_list line
-  read_bad e = ap (λ (s : ListRead). read_said s after) (sym e) ∙ read.said
+module _ {line before after : List ℕ} {r : Option ℕ} (read : ReadInto line before after r) where
+  pub read_bad : r ≡ None → bad ≡ read_list line
+  read_bad e = ap (λ (s : Option ℕ). read_said s after) (sym e) ∙ read.said
 
-  module _ {count : ℕ} (e : r ≡ Numbers count) where
-    -- .. the words from 0 up to the count
-    pub read-good : list (take (count - 0) after) ≡ read_list line
-    read-good =
-        ap (λ (k : ℕ). list (take k after)) (sub-zero count) ∙ ap (λ (s : ListRead). read_said s after) (sym e) ∙ read.said
+  module _ {count : ℕ} (e : r ≡ Some count) where
+    -- .. the words up to the count
+    pub read-good : list (take count after) ≡ read_list line
+    read-good = ap (λ (s : Option ℕ). read_said s after) (sym e) ∙ read.said
 
     pub read-few : count ≤ length after
     read-few = omega (arith, ap how_many e, read.within)

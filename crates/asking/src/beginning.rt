@@ -2,13 +2,12 @@
 ghost use Rattle.std.specs.Prelude.{◌≤◌, length};
 ghost use Rattle.asking.specs.Begun.{Begun};
 
-use answers::Prepared;
 use convex::prepare::prepare;
 use stepmap::read::{link_count, node_count};
 use text::printer::{put_first, put_refused_line};
 use wording::put_unprepared;
 
-// What was put, as where it ends: the whole output, or its first line.
+// What was put, as where it ends: the whole output, or its first line. Both are answers of the same rank, so it is no Result.
 #[derive(Clone, Copy)]
 pub enum Beginning {
     Whole(usize),
@@ -25,9 +24,9 @@ pub fn begin(map: &[u8], input: &[u8], area: &mut [u16], out: &mut [u8]) -> Begi
     if map_is_long {
         return Beginning::Whole(put_refused_line(out, 0, 2, 0));
     }
-    let prepared = prepare(map, area);
-    let Prepared::Lines(count) = prepared else {
-        return Beginning::Whole(put_unprepared(out, prepared));
+    let count = match prepare(map, area) {
+        Ok(count) => count,
+        Err(x) => return Beginning::Whole(put_unprepared(out, Err(x))),
     };
     if input.len() > 60000 {
         return Beginning::Whole(put_refused_line(out, 0, 15, 0));

@@ -24,46 +24,11 @@ use std::rt::Files;
 use std::{fs, io};
 use turns::next_list;
 
-// What is asked of every list: both checks, or the path that a no shows.
+// What is asked of every list: both checks, or the path that a no shows. Two programs of the same rank, neither an absence.
 #[derive(Clone, Copy)]
 pub enum Program {
     Ask,
     Why,
-}
-
-// Room for one byte more than a map may have, so that a longer one is seen.
-fn map_room() -> [u8; 65001]
-    ensures { length result ≡ 65001 }
-{
-    [0u8; 65001]
-}
-
-// Room for one byte more than the input may have.
-fn input_room() -> [u8; 60001]
-    ensures { length result ≡ 60001 }
-{
-    [0u8; 60001]
-}
-
-// Room for the largest W.
-fn area_room() -> [u16; 31751]
-    ensures { length result ≡ 31751 }
-{
-    [0u16; 31751]
-}
-
-// Room for the numbers of a line of 60,000 bytes.
-fn list_room() -> [u16; 30001]
-    ensures { length result ≡ 30001 }
-{
-    [0u16; 30001]
-}
-
-// Room for the longest line of output: a path of 514 steps takes 3,089 bytes.
-fn line_room() -> [u8; 3200]
-    ensures { length result ≡ 3200 }
-{
-    [0u8; 3200]
 }
 
 // Reads the map's file; one that is missing counts as no bytes, and a name that is no text names none.
@@ -96,6 +61,7 @@ fn answer_lists<W: Write>(
 {
     let mut at = 0;
     let mut i = 0;
+    // Each turn goes on behind its line, so no range counts the places.
     while at < input.len() {
         let turn = next_list(program, map, input, area, at, i, list, out);
         writer.write_all(&out[..turn.printed])?;
@@ -109,13 +75,15 @@ fn answer_lists<W: Write>(
 fn answer<W: Write>(program: Program, map: &[u8], input: &[u8], writer: &mut W) -> io::Result<()>
     ensures { OnOk result (Appends (W.contents writer.old) (W.contents writer.new) (output (says_of program) map.now input.now)) }
 {
-    let mut area = area_room();
-    let mut out = line_room();
+    // Room for the largest W, and for the longest line of output: a path of 514 steps takes 3,089 bytes.
+    let mut area = [0u16; 31751];
+    let mut out = [0u8; 3200];
     match begin(map, input, &mut area, &mut out) {
         Beginning::Whole(end) => writer.write_all(&out[..end]),
         Beginning::First(end) => {
             writer.write_all(&out[..end])?;
-            let mut list = list_room();
+            // Room for the numbers of a line of 60,000 bytes.
+            let mut list = [0u16; 30001];
             answer_lists(program, map, input, &mut area, &mut list, &mut out, writer)?;
             Ok(())
         }
@@ -133,7 +101,8 @@ fn answer_input<I: Read, W: Write>(
     ensures { OnOk result (IfSome (I.remaining from.old) (λ input. (whole : List ℕ) → take 65001 whole ≡ map.now
         → Appends (W.contents writer.old) (W.contents writer.new) (output (says_of program) whole input))) }
 {
-    let mut input = input_room();
+    // One byte more than the input may have.
+    let mut input = [0u8; 60001];
     let count = read_full(from, &mut input)?;
     answer(program, map, &input[..count], writer)
 }
@@ -149,7 +118,8 @@ pub fn run_on<R: Files, I: Read, W: Write>(
     ensures { OnOk result (IfSome (I.remaining from.old) (λ input. (map : List ℕ)
         × Appends (W.contents writer.old) (W.contents writer.new) (output (says_of program) map input))) }
 {
-    let mut map = map_room();
+    // One byte more than a map may have, so that a longer one is seen.
+    let mut map = [0u8; 65001];
     let size = read_steps(rt, name, &mut map)?;
     answer_input(program, &map[..size], from, writer)
 }

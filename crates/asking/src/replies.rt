@@ -9,7 +9,7 @@ use super::Program;
 use super::checks::say_checks;
 use super::ways::say_path;
 use text::printer::{put_refused_line, put_text};
-use text::reader::{ListRead, read_list};
+use text::reader::read_list;
 
 // Puts what the program says of a list, and leaves room for a newline.
 fn say(program: Program, map: &[u8], area: &mut [u16], list: &[u16], out: &mut [u8]) -> usize
@@ -55,9 +55,8 @@ pub fn answer_text(
     requires in_bounds { 3200 ≤ length out.old }
     ensures { Printed map.now area.new (say_line (says_of program) map.now (prepared_area map.now) i (read_list text.now)) out.old out.new result }
 {
-    let read = read_list(text, list);
-    let ListRead::Numbers(count) = read else {
+    let Some(count) = read_list(text, list) else {
         return put_refused_line(out, 0, 15, i);
     };
-    answer_list(program, map, area, &list[0..count], out)
+    answer_list(program, map, area, &list[..count], out)
 }

@@ -7,13 +7,6 @@ ghost use Rattle.asking.specs.Printed.{Printed};
 use convex::path::show_path;
 use wording::put_way;
 
-// Room for the longest path: 512 steps outside the list, and its two ends.
-fn path_room() -> [u16; 514]
-    ensures { length result ≡ 514 }
-{
-    [0u16; 514]
-}
-
 // Asks for the path, in the area that the lists before left.
 pub fn say_path(map: &[u8], area: &mut [u16], list: &[u16], out: &mut [u8]) -> usize
     requires standing { Standing map.now area.old }
@@ -21,7 +14,8 @@ pub fn say_path(map: &[u8], area: &mut [u16], list: &[u16], out: &mut [u8]) -> u
     ensures printed { Printed map.now area.new (why_says map.now (prepared_area map.now) list.now) out.old out.new result }
     ensures upper_bound { result < 3200 }
 {
-    let mut path = path_room();
+    // Room for the longest path: 512 steps outside the list, and its two ends.
+    let mut path = [0u16; 514];
     let answer = show_path(map, area, list, &mut path);
     put_way(out, answer, &path)
 }

@@ -8,6 +8,7 @@ use mathlib.Core.Logic.{inl}
 use mathlib.Core.List.{List, [], ◌∷◌, ◌++◌}
 use lib.ListN.{length, get_or}
 use lib.Seq.{sets}
+use Rattle.std.specs.Prelude.{Option, Some, None}
 use Rattle.lists.specs.Lists.{least}
 use Rattle.lists.specs.Bounds.{Below}
 use Rattle.lists.proofs.Sections.{part, part_same, length_part, get_d_part}
@@ -34,11 +35,10 @@ use Rattle.take_in.proofs.ListTaken.{list_into}
 use Rattle.neighbours.specs.declared.Listing.{Listing}
 use Rattle.neighbours.specs.Linked.{Free, OutgoingLaid, IncomingLaid, outgoing_size, incoming_size}
 use Rattle.neighbours.proofs.Keeping.{linked-kept}
+use Rattle.distances.specs.declared.queue.Queue.{Queue}
 use Rattle.distances.specs.Met.{ListMarked, Listed as ToMark, met_size}
 use Rattle.distances.specs.Reached.{Standing}
 use Rattle.distances.specs.Closed.{Closes, ClosesAt, Closed}
-use Rattle.distances.specs.declared.closing.Closing.{Closing}
-use Rattle.distances.specs.declared.closing.Closing.TheVariants.{Never, At}
 use Rattle.distances.proofs.Passing.{standing-kept}
 use Rattle.back_path.specs.Ways.{Sourced, way_told, HasWay}
 use Rattle.back_path.specs.Searched.{Searched}
@@ -53,6 +53,10 @@ Shows b list at a m rules said buffer after =
     (steps_of (back_path b list))
 
 -- ---- the links
+
+-- where the nodes that are met stand
+abbrev queue_at : Layout → Queue
+queue_at at = record { start = at.scratch; nodes = at.sizes.nodes }
 
 -- where they are laid
 abbrev links_at : Layout → ℕ
@@ -103,7 +107,7 @@ module _ {b a : List ℕ} {at : Layout} {count : ℕ} (usable : Usable b a at) (
         part_same a₁ a at.scratch count 0 laid.kept.long fits
         (λ i h. laid.kept.same (at.scratch + i) (inl (omega (arith, listed.few))))
 
-    pub to-mark : ToMark a₁ at.scratch at.sizes.nodes count
+    pub to-mark : ToMark a₁ (queue_at at) count
     to-mark =
         record {
           fits = omega (arith, usable.placed, usable.room, laid.kept.long);
@@ -112,11 +116,11 @@ module _ {b a : List ℕ} {at : Layout} {count : ℕ} (usable : Usable b a at) (
           nodes = subst (Joined at.sizes.nodes) (sym list₁) (record { once = times-distinct list listed.once; known = list-known });
         }
 
-    module _ {a₂ : List ℕ} (marked : ListMarked a₁ at.scratch at.sizes.nodes count a₂) where
-      pub standing : Standing b a₂ at.sizes at.scratch room.targets
+    module _ {a₂ : List ℕ} (marked : ListMarked a₁ (queue_at at) count a₂) where
+      pub standing : Standing b a₂ (record { sizes = at.sizes; start = at.scratch; links = room.targets })
       standing = standing-kept laid.standing marked.kept
 
-      module _ {r : Closing} {a₃ : List ℕ} (closed : Closed b a₂ at.scratch at.sizes.nodes count r a₃) where
+      module _ {r : Option (ℕ × ℕ)} {a₃ : List ℕ} (closed : Closed b a₂ (queue_at at) count r a₃) where
         scratched : Scratched at a a₃
         scratched =
             within_both (within_wider laid.kept at.scratch (scratch_size at.sizes) (omega arith) (omega arith))
@@ -124,8 +128,7 @@ module _ {b a : List ℕ} {at : Layout} {count : ℕ} (usable : Usable b a at) (
 
         pub sourced :
             Sourced b a₃ (record {
-              nodes = at.sizes.nodes;
-              queue = at.scratch;
+              queue = queue_at at;
               firsts = room.sources.firsts;
               starts = room.sources.starts;
               sorted = room.sources.sorted;
@@ -140,58 +143,56 @@ module _ {b a : List ℕ} {at : Layout} {count : ℕ} (usable : Usable b a at) (
               room = omega (arith, usable.placed, usable.room, scratched.long);
             }
 
-        closes : Closes b list a₃ at.scratch at.sizes.nodes r
-        closes = subst (λ (xs : List ℕ). Closes b xs a₃ at.scratch at.sizes.nodes r) (marked.list ∙ list₁) closed.closes
+        closes : Closes b list a₃ (queue_at at) r
+        closes = subst (λ (xs : List ℕ). Closes b xs a₃ (queue_at at) r) (marked.list ∙ list₁) closed.closes
 
-        pub shows_none : r ≡ Never → (buffer : List ℕ) → Shows b list at a a₃ [] (answered no_steps) buffer buffer
-        shows_none e buffer =
-            into_answered scratched
-            (none_into buffer (path-none b list (subst (Closes b list a₃ at.scratch at.sizes.nodes) e closes)))
+      pub shows_none : {a₃ : List ℕ} → Closed b a₂ (queue_at at) count None a₃ → (buffer : List ℕ) → Shows b list at a a₃ [] (answered no_steps) buffer buffer
+      shows_none closed buffer = into_answered (scratched closed) (none_into buffer (path-none b list (closes closed)))
 
-        module _ {d end : ℕ} (e : r ≡ At d end) where
-          closes_so : ClosesAt b list a₃ at.scratch at.sizes.nodes d end
-          closes_so = subst (Closes b list a₃ at.scratch at.sizes.nodes) e closes
+      module _ {d end : ℕ} {a₃ : List ℕ} (closed : Closed b a₂ (queue_at at) count (Some (d, end)) a₃) where
+        closes_so : ClosesAt b list a₃ (queue_at at) d end
+        closes_so = closes closed
 
-          smallest : SmallestEnd b list d end
-          smallest =
-              subst (SmallestEnd b list d) (sym closes_so.smallest)
-              (subst (λ (k : ℕ). SmallestEnd b list k (least (ends_at b list k))) (sym closes_so.distance) (closes_at b list closes_so.first).end)
+        smallest : SmallestEnd b list d end
+        smallest =
+            subst (SmallestEnd b list d) (sym closes_so.smallest)
+            (subst (λ (k : ℕ). SmallestEnd b list k (least (ends_at b list k))) (sym closes_so.distance) (closes_at b list closes_so.first).end)
 
-          is : back_path b list ≡ path (path_to b list (suc d) end)
-          is =
-              path-some b list closes_so.first
-              ∙ ap (λ (k : ℕ). path (path_to b list (suc k) (least (ends_at b list k)))) (sym closes_so.distance)
-              ∙ ap (λ (v : ℕ). path (path_to b list (suc d) v)) (sym closes_so.smallest)
+        is : back_path b list ≡ path (path_to b list (suc d) end)
+        is =
+            path-some b list closes_so.first
+            ∙ ap (λ (k : ℕ). path (path_to b list (suc k) (least (ends_at b list k)))) (sym closes_so.distance)
+            ∙ ap (λ (v : ℕ). path (path_to b list (suc d) v)) (sym closes_so.smallest)
 
-          long : length (path_to b list (suc d) end) ≡ d + 2
-          long = path-length b list (suc d) end ∙ omega arith
+        long : length (path_to b list (suc d) end) ≡ d + 2
+        long = path-length b list (suc d) end ∙ omega arith
 
-          pub near : d ≤ 512
-          near = omega (arith, closes_so.distance, (closes_at b list closes_so.first).below, usable.read.nodes, usable.read.few-nodes)
+        pub near : d ≤ 512
+        near = omega (arith, closes_so.distance, (closes_at b list closes_so.first).below, usable.read.nodes, usable.read.few-nodes)
 
-          pub shows_long : (buffer : List ℕ) → length buffer < d + 2 → Shows b list at a a₃ [] (refused 11 (d + 2)) buffer buffer
-          shows_long buffer h = into_answered scratched (long_into buffer is long h)
+        pub shows_long : (buffer : List ℕ) → length buffer < d + 2 → Shows b list at a a₃ [] (refused 11 (d + 2)) buffer buffer
+        shows_long buffer h = into_answered (scratched closed) (long_into buffer is long h)
 
-          is-sound : Sound b
-          is-sound = sound b usable.links
+        is-sound : Sound b
+        is-sound = sound b usable.links
 
-          pub end_known : end < at.sizes.nodes
-          end_known = member_below list-known (in_mem list smallest.listed)
+        pub end_known : end < at.sizes.nodes
+        end_known = member_below list-known (in_mem list smallest.listed)
 
-          pub end_way : HasWay b a₃ at.scratch at.sizes.nodes (d + 1) end
-          end_way =
-              subst (λ (k : ℕ). HasWay b a₃ at.scratch at.sizes.nodes k end) (sym (add-one d))
-              (fed_way is-sound usable.read.nodes closes_so.told d (omega arith) end smallest.fed)
+        pub end_way : HasWay b a₃ (queue_at at) (d + 1) end
+        end_way =
+            subst (λ (k : ℕ). HasWay b a₃ (queue_at at) k end) (sym (add-one d))
+            (fed_way is-sound usable.read.nodes closes_so.told d (omega arith) end smallest.fed)
 
-          pub shows_path : (buffer : List ℕ) → d + 2 ≤ length buffer → {after : List ℕ}
-              → after ≡ sets buffer 0 (way_told b a₃ at.scratch at.sizes.nodes (d + 1) end) → Shows b list at a a₃ [] (answered (steps (d + 2))) buffer after
-          shows_path buffer h written =
-              into_answered scratched
-              (fit_into buffer is long h
-              (written
-              ∙ ap (sets buffer 0)
-              (ap (λ (k : ℕ). way_told b a₃ at.scratch at.sizes.nodes k end) (add-one d)
-              ∙ way_told_lem is-sound usable.read.nodes closes_so.told (suc d) (omega arith) end)))
+        pub shows_path : (buffer : List ℕ) → d + 2 ≤ length buffer → {after : List ℕ}
+            → after ≡ sets buffer 0 (way_told b a₃ (queue_at at) (d + 1) end) → Shows b list at a a₃ [] (answered (steps (d + 2))) buffer after
+        shows_path buffer h written =
+            into_answered (scratched closed)
+            (fit_into buffer is long h
+            (written
+            ∙ ap (sets buffer 0)
+            (ap (λ (k : ℕ). way_told b a₃ (queue_at at) k end) (add-one d)
+            ∙ way_told_lem is-sound usable.read.nodes closes_so.told (suc d) (omega arith) end)))
 
 -- ---- from the list itself
 

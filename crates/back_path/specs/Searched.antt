@@ -10,7 +10,7 @@ use Rattle.back_path.specs.declared.showing.Room.{Room}
 
 -- the links of both directions are laid, and no other word was written
 pub record Searched (b a : List ℕ) (at : Layout) (room : Room) (m : List ℕ) : Type 0 where
-  pub standing : Standing b m at.sizes at.scratch room.targets
+  pub standing : Standing b m (record { sizes = at.sizes; start = at.scratch; links = room.targets })
   pub incoming : Incoming b m at.sizes room.sources
   pub apart : at.scratch + met_size at.sizes.nodes ≤ room.sources.firsts
   pub kept : Within (at.scratch + met_size at.sizes.nodes) (outgoing_size at.sizes + incoming_size at.sizes) a m

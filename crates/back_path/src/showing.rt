@@ -10,13 +10,14 @@ ghost use Rattle.answers.specs.Said.{path_said};
 ghost use Rattle.back_path.specs.Searched.{Searched};
 
 use super::writing::{Back, write_path};
-use answers::PathAnswer;
-use distances::closing::{Closing, close};
-use distances::queue::mark_list;
+use distances::Search;
+use distances::closing::close;
+use distances::queue::{Queue, mark_list};
 use neighbours::{Listing, lay_incoming, lay_outgoing};
 use refusals::Refusal;
 use tables::Layout;
-use take_in::{Taken, list_refusal, take_in};
+use take_in::take_in;
+use words::entries::Entries;
 
 // Where the links stand that the search reads: by output port from step to step, and by input port on the way back.
 #[derive(Clone, Copy)]
@@ -43,7 +44,7 @@ pub fn show_listed(
     area: &mut [u16],
     count: usize,
     buffer: &mut [u16],
-) -> PathAnswer
+) -> Result<Option<usize>, Refusal>
     requires usable { Usable b.now area.old at }
     requires listed { Listed area.old at count }
     ensures { AnsweredInto at area.old area.new (path_said result)
@@ -53,45 +54,49 @@ pub fn show_listed(
         (steps_of (back_path b.now (list_in area.old at count))) }
 {
     let room = lay(b, at, area);
-    mark_list(area, at.scratch, at.sizes.nodes, count);
-    let closing = close(b, at.sizes, area, at.scratch, room.targets, count);
-    let Closing::At(d, end) = closing else {
-        return PathAnswer::NoPath;
+    let queue = Queue {
+        start: at.scratch,
+        nodes: at.sizes.nodes,
+    };
+    mark_list(area, queue, count);
+    let search = Search {
+        sizes: at.sizes,
+        start: queue.start,
+        links: room.targets,
+    };
+    let Some((d, end)) = close(b, search, area, count) else {
+        return Ok(None);
     };
     let steps = d + 2;
     if buffer.len() < steps {
-        return PathAnswer::Refused(Refusal::TooLong(steps));
+        return Err(Refusal::TooLong(steps));
     }
     let back = Back {
-        nodes: at.sizes.nodes,
-        queue: at.scratch,
+        queue,
         firsts: room.sources.firsts,
         starts: room.sources.starts,
         sorted: room.sources.sorted,
     };
     write_path(b, area, back, end, d + 1, buffer);
-    PathAnswer::Path(steps)
+    Ok(Some(steps))
 }
 
 // The path of a list: refusals 8, 9, 10, then 11.
-pub fn show_path_of_list(
+pub fn show_path_of_list<E: Entries + Copy>(
     b: &[u8],
     at: Layout,
     area: &mut [u16],
-    list: &[u16],
+    list: E,
     buffer: &mut [u16],
-) -> PathAnswer
+) -> Result<Option<usize>, Refusal>
     requires { Usable b.now area.old at }
     ensures { AnsweredInto at area.old area.new (path_said result)
-        (line_rules b.now list.now
-        ++ (rule11 (length buffer.old) (length (steps_of (back_path b.now list.now))) ∷ []))
-        (shown_of (back_path b.now list.now))
+        (line_rules b.now (E.entries list)
+        ++ (rule11 (length buffer.old) (length (steps_of (back_path b.now (E.entries list)))) ∷ []))
+        (shown_of (back_path b.now (E.entries list)))
         buffer.old buffer.new
-        (steps_of (back_path b.now list.now)) }
+        (steps_of (back_path b.now (E.entries list))) }
 {
-    let taken = take_in(list, at.sizes.nodes, area, at.scratch);
-    let Taken::Nodes(count) = taken else {
-        return PathAnswer::Refused(list_refusal(taken));
-    };
+    let count = take_in(list, at.sizes.nodes, area, at.scratch)?;
     show_listed(b, at, area, count, buffer)
 }

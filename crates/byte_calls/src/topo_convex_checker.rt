@@ -4,22 +4,19 @@ ghost use Rattle.paper.specs.Calls.{topo_is_convex, topo_is_node_convex};
 ghost use Rattle.paper.specs.Words.{words_from};
 ghost use Rattle.answers.specs.Said.{topo_said};
 
-use answers::TopoAnswer;
-use byte_ports::check_order_with_ports_bytes;
-use opening::ends::{clear_scratch, refusal};
-use opening::{Opened, open};
-use topo_checker::check_order_bytes;
+use opening::ends::clear_scratch;
+use opening::open;
+use refusals::Refusal;
+use topo_checker::check_order;
+use with_ports::check_order_with_ports;
 
 // Order check of a list in bytes.
-pub fn is_node_convex(map: &[u8], area: &mut [u16], list: &[u8]) -> TopoAnswer
+pub fn is_node_convex(map: &[u8], area: &mut [u16], list: &[u8]) -> Result<bool, Refusal>
     ensures { record { answer = topo_said result; area = area.new }
         ≡ topo_is_node_convex map.now area.old (words_from list.now) }
 {
-    let opened = open(map, area);
-    let Opened::Ready(at) = opened else {
-        return TopoAnswer::Refused(refusal(opened));
-    };
-    let ordered = check_order_bytes(map, at, area, list);
+    let at = open(map, area)?;
+    let ordered = check_order(map, at, area, list);
     clear_scratch(area, at);
     ordered
 }
@@ -31,15 +28,12 @@ pub fn is_convex(
     list: &[u8],
     inputs: &[u8],
     outputs: &[u8],
-) -> TopoAnswer
+) -> Result<bool, Refusal>
     ensures { record { answer = topo_said result; area = area.new }
         ≡ topo_is_convex map.now area.old (words_from list.now) (words_from inputs.now) (words_from outputs.now) }
 {
-    let opened = open(map, area);
-    let Opened::Ready(at) = opened else {
-        return TopoAnswer::Refused(refusal(opened));
-    };
-    let ported = check_order_with_ports_bytes(map, at, area, list, inputs, outputs);
+    let at = open(map, area)?;
+    let ported = check_order_with_ports(map, at, area, list, inputs, outputs);
     clear_scratch(area, at);
     ported
 }

@@ -10,13 +10,14 @@ use Rattle.paper.specs.Area.{K}
 use Rattle.paper.specs.Intervals.{Reply, Interval}
 use Rattle.paper.specs.Walk.{walk}
 use Rattle.paper.specs.Records.{records_in, extend, nodes_in}
-use Rattle.paper.specs.Refusals.{Ruling, passed, Answer, answered, refused, rule8, rule9, rule12, rule13}
+use Rattle.paper.specs.Refusals.{Ruling, passed, Answer, rule8, rule9, rule12, rule13}
 use Rattle.paper.specs.Calls.{Written, said, words_of}
 use Rattle.paper.specs.Words.{words_from}
 use Rattle.accepted_theory.proofs.Alike.{Alike, in_the_end, next, same_answer}
+use Rattle.std.specs.Prelude.{Err}
+use Rattle.refusals.specs.declared.Refusal.{Refusal}
 use Rattle.refusals.specs.declared.Refusal.TheVariants.{BadRecord}
 use Rattle.records.specs.Tested.{Tested}
-use Rattle.records.specs.declared.Checked.TheVariants.{Refused}
 use Rattle.records.specs.declared.layout.LineSlots.{LineSlots}
 use Rattle.records.proofs.Testing.{beyond}
 use Rattle.tables.specs.declared.Layout.{Layout}
@@ -28,10 +29,6 @@ use Rattle.line_checker.specs.InRoom.{InRoom, itself}
 use Rattle.line_checker.proofs.RecordCalls.{some_given}
 use Rattle.byte_records.proofs.Enough.{rule12_enough, records_enough}
 use Rattle.byte_records.proofs.Reading.{ReadRecords}
-
--- a refusal is no answer
-pub never_answered : {A : Type 0} {i v : ℕ} (x : A) → refused i v ≡ answered x → ⊥
-never_answered x e = let z : ◌≡◌ {A = ℕ} 0 1 = cc in omega arith
 
 -- what stands in a room by rulings that are alike
 room_alike : {A F R : Type 0} {told : R → A} {words : R → List ℕ} {at : Layout} {a m : List ℕ} {x : Answer A} {rs ss : List Ruling} {f g : F}
@@ -85,11 +82,12 @@ module _ {b a : List ℕ} {at : Layout} (usable : Usable b a at) {bytes : List �
 
 -- ---- records beyond the buffer: no slot is read
 
-pub beyond-bytes : (b a : List ℕ) (at : Layout) (bytes : List ℕ) {count : ℕ} → length bytes / 2 / 3 < count
-    → Tested b a at (record { numbers = 0; marks = 0 }) (words_from bytes) count (Refused (BadRecord (length bytes / 2 / 3))) a
+pub beyond-bytes : (b a : List ℕ) (at : Layout) (bytes : List ℕ) {count : ℕ} {x : Refusal}
+    → (length bytes / 2 / 3 < count) × (x ≡ BadRecord (length bytes / 2 / 3))
+    → Tested b a at (record { numbers = 0; marks = 0 }) (words_from bytes) count (Err x) a
 beyond-bytes b a at bytes {count} h =
-    subst (λ (k : ℕ). Tested b a at nowhere (words_from bytes) count (Refused (BadRecord (k / 3))) a) (length-words_from bytes)
-    (beyond b a at nowhere (words_from bytes) (omega (arith, length-words_from bytes)))
+    subst (λ (y : Refusal). Tested b a at nowhere (words_from bytes) count (Err y) a) (ap (λ (k : ℕ). BadRecord (k / 3)) (length-words_from bytes) ∙ sym h.1)
+    (beyond b a at nowhere (words_from bytes) (omega (arith, length-words_from bytes, h.0)))
   where
     nowhere : LineSlots
     nowhere = record { numbers = 0; marks = 0 }

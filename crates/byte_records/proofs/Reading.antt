@@ -1,6 +1,6 @@
 -- The first records of a caller's bytes, read into a room, stand there.
 -- Rests on Enough, words's Buffers and lists.Sections.
-use Prim.Native.Nat.{ℕ, ◌+◌, ◌-◌, ◌*◌, ◌/◌, ◌≤◌, ◌<◌, min}
+use Prim.Native.Nat.{ℕ, ◌+◌, ◌*◌, ◌/◌, ◌≤◌, ◌<◌, min}
 use native.Mathlib.Omega.{arith}
 use mathlib.Core.Path.{◌≡◌, sym, ap, ◌∙◌, subst}
 use mathlib.Core.List.{List}
@@ -48,23 +48,23 @@ whole-bytes : (bytes : List ℕ) → whole_records (words_from bytes) ≡ length
 unfolding whole_records
 whole-bytes bytes = ap (λ (k : ℕ). k / 3) (length-words_from bytes)
 
-module _ (room bytes : List ℕ) {count : ℕ} (inside : count ≤ length bytes / 2 / 3) where
+module _ (room bytes : List ℕ) (count : ℕ) where
   -- the words of the bytes that are read
-  pub read_first : {r : ℕ} → r ≡ min count 2561 → {vs : List ℕ} → vs ≡ sets room 0 (words_from (take (6 * r - 0) bytes))
+  pub read_first : {r : ℕ} → r ≡ min count 2561 → {vs : List ℕ} → vs ≡ sets room 0 (words_from (take (6 * r) bytes))
       → vs ≡ sets room 0 (take (3 * min count 2561) (words_from bytes))
   read_first {r} is e =
       e ∙ ap (λ (k : ℕ). sets room 0 (words_from (take k bytes))) six ∙ ap (sets room 0) (sym (take_words (3 * min count 2561) bytes))
     where
-      six : 6 * r - 0 ≡ 2 * (3 * min count 2561)
+      six : 6 * r ≡ 2 * (3 * min count 2561)
       six = omega arith
 
   module _ (long : length room ≡ 7683) {r : ℕ} {vs : List ℕ}
-      (read : (r ≡ min count 2561) × (vs ≡ sets room 0 (take (3 * min count 2561) (words_from bytes)))) where
+      (read : (count ≤ length bytes / 2 / 3) × (r ≡ min count 2561) × (vs ≡ sets room 0 (take (3 * min count 2561) (words_from bytes)))) where
     pub read_all : ReadRecords bytes count r vs
     read_all =
         record {
-          is = read.0;
-          within = omega (arith, whole-bytes bytes);
-          held = subst (FirstRecords (words_from bytes) (min count 2561)) (sym read.1)
-              (first_read room (words_from bytes) (min count 2561) (omega (arith, length-words_from bytes)) (omega arith));
+          is = read.1;
+          within = omega (arith, read.0, whole-bytes bytes);
+          held = subst (FirstRecords (words_from bytes) (min count 2561)) (sym read.2)
+              (first_read room (words_from bytes) (min count 2561) (omega (arith, read.0, length-words_from bytes)) (omega arith));
         }

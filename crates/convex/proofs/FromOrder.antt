@@ -3,28 +3,27 @@
 use Prim.Native.Nat.{ℕ, ◌+◌, ◌≤◌, ◌<◌}
 use native.Mathlib.Nat.{zero-add}
 use native.Mathlib.Omega.{arith}
-use mathlib.Core.Path.{◌≡◌, sym, ap, ap₂, ◌∙◌, subst, subst₂}
+use mathlib.Core.Path.{◌≡◌, sym, ap, ap₂, ◌∙◌, subst}
 use mathlib.Core.List.{List, map}
 use lib.ListN.{length, get_or, replicate, length-replicate}
 use lib.Seq.{length-sets}
 use Rattle.lists.specs.Lists.{upto}
-use Rattle.lists.proofs.Sections.{Apart, part, get_or-sets_in, sets-sets}
+use Rattle.lists.proofs.Sections.{part, get_or-sets_in, sets-sets}
 use Rattle.lists.proofs.Upto.{get_or-zeros}
 use Rattle.paper.specs.Map.{first_port, source_port}
 use Rattle.paper.specs.Order.{order}
 use Rattle.paper.specs.Lines.{tables, tables_of}
-use Rattle.paper.specs.Area.{Section, W, cleared, written, prepared}
+use Rattle.paper.specs.Area.{W, cleared, written, prepared}
 use Rattle.paper.specs.Refusals.{passed, rule6}
-use Rattle.paper.proofs.Area.{W-sum}
 use Rattle.lines_theory.proofs.Prepared.{tables-sized, written-long}
-use Rattle.lines_theory.proofs.Written.{start_is_lem}
 use Rattle.counting_sort.specs.Sorted.{starts_by, sorted_by}
 use Rattle.tables.specs.declared.Layout.{Layout}
 use Rattle.neighbours.specs.declared.Listing.{Listing}
 use Rattle.toposort.specs.Laid.{OrderLaid}
 use Rattle.toposort.proofs.Refusing.{written_over}
-use Rattle.line_tables.specs.Layout.{firsts_at, tops_at, out_sorted_at}
 use Rattle.line_tables.specs.Laying.{Laying}
+use Rattle.line_tables.specs.Room.{room_of}
+use Rattle.line_tables.proofs.Fitting.{room_fits}
 
 module _ (a : List ℕ) {b m : List ℕ} {at : Layout} {links : Listing} (done : OrderLaid b (cleared b a) at links m) (cycle : rule6 b ≡ passed) where
   abbrev n : ℕ
@@ -36,22 +35,16 @@ module _ (a : List ℕ) {b m : List ℕ} {at : Layout} {links : Listing} (done :
   abbrev p : ℕ
   p = at.sizes.ports
 
-  -- ---- the places as numbers
+  -- ---- the places that ordering laid are the room's
 
-  order_at : at.order ≡ 1
-  order_at = omega (arith, start_is_lem b Section.order, done.ready.placed.stands Section.order)
+  firsts_at : links.firsts ≡ (room_of at).firsts
+  firsts_at = done.first
 
-  scratch_at : at.scratch ≡ firsts_at n l
-  scratch_at = omega (arith, done.ready.read, start_is_lem b Section.scratch, done.ready.placed.stands Section.scratch)
+  starts_at : links.starts ≡ (room_of at).tops
+  starts_at = omega (arith, done.first, done.last, done.index.linked)
 
-  firsts_at_lem : links.firsts ≡ firsts_at n l
-  firsts_at_lem = done.first ∙ scratch_at
-
-  starts_at : links.starts ≡ tops_at n l
-  starts_at = omega (arith, done.first, done.last, scratch_at, done.index.linked)
-
-  sorted_at : links.sorted ≡ out_sorted_at n l p
-  sorted_at = omega (arith, done.first, done.last, scratch_at, done.index.linked)
+  sorted_at : links.sorted ≡ (room_of at).out_sorted
+  sorted_at = omega (arith, done.first, done.last, done.index.linked)
 
   -- ---- what stands there
 
@@ -70,32 +63,34 @@ module _ (a : List ℕ) {b m : List ℕ} {at : Layout} {links : Listing} (done :
   many : length {A = ℕ} (replicate (W b) 0) ≡ W b
   many = length-replicate (W b) 0
 
-  word_zero : (i : ℕ) → i < firsts_at n l → get_or (cleared b a) i 0 ≡ 0
+  word_zero : (i : ℕ) → i < at.scratch → get_or (cleared b a) i 0 ≡ 0
   unfolding cleared
   word_zero i h =
       ap (λ (k : ℕ). get_or (cleared b a) k 0) (sym (zero-add i))
-      ∙ get_or-sets_in a 0 (replicate (W b) 0) i 0 (omega (arith, many, W-sum b, done.ready.read)) (omega (arith, many, room))
+      ∙ get_or-sets_in a 0 (replicate (W b) 0) i 0 (omega (arith, many, done.ready.placed)) (omega (arith, many, room))
       ∙ get_or-zeros (W b) i
 
-  pub laying : Laying b m n l p
+  pub laying : Laying b m at (room_of at)
   laying =
       record {
         ready =
             record {
               read = done.ready.read;
               links = done.ready.links;
-              room = omega (arith, W-sum b, done.ready.read, done.ready.placed.whole, done.ready.room);
+              placed = done.ready.placed;
+              fits = room_fits at;
+              long = done.ready.room;
             };
         cycle = cycle;
-        order-stands = subst₂ (λ (o k : ℕ). part m o k ≡ order b) order_at ordered-all done.ordered;
-        firsts_stand = subst (λ (o : ℕ). part m o (n + 1) ≡ map (first_port b) (upto (n + 1))) firsts_at_lem done.index.linked.firsts_stand;
+        order-stands = ap (part m at.order) (sym ordered-all) ∙ done.ordered;
+        firsts_stand = subst (λ (o : ℕ). part m o (n + 1) ≡ map (first_port b) (upto (n + 1))) firsts_at done.index.linked.firsts_stand;
         starts_stand =
             subst (λ (o : ℕ). part m o (p + 1) ≡ starts_by (map (source_port b) (upto l)) p) starts_at
             (done.index.linked.starts_stand ∙ ap₂ (λ (x y : ℕ). starts_by (map (source_port b) (upto x)) y) done.ready.read.links done.ready.read.ports);
         sorted_stand =
             subst (λ (o : ℕ). part m o l ≡ sorted_by (map (source_port b) (upto l)) p) sorted_at
             (done.index.linked.sorted_stand ∙ ap₂ (λ (x y : ℕ). sorted_by (map (source_port b) (upto x)) y) done.ready.read.links done.ready.read.ports);
-        clear = λ i apart low. done.same i (subst (λ (o : ℕ). Apart i o n) (sym order_at) apart) (omega (arith, scratch_at)) ∙ word_zero i low;
+        clear = λ i apart low. done.same i apart low ∙ word_zero i low;
       }
 
   -- the first W words are written in full, so that nothing of the ordering is left

@@ -14,31 +14,29 @@ ghost use Rattle.paper.specs.Calls.{
   view_of_port,
 };
 ghost use Rattle.paper.specs.Promise.{KnownPorts, LinePortsPromise, LinePromise, StepList, Trusted};
-ghost use Rattle.answers.specs.Said.{extend_said, intervals_said, line_said, nodes_said, port_lines_said};
+ghost use Rattle.refusals.specs.Said.{answer_of};
+ghost use Rattle.answers.specs.Said.{line_said, written_said};
 ghost use Rattle.port_lines.specs.Place.{StartsAt};
 
-use answers::{ExtendAnswer, IntervalsAnswer, LineAnswer, NodesAnswer, PortLines};
+use answers::Verdict;
 use line_checker::extend::extend_records;
 use line_checker::line_check::{check_by_records, check_list};
 use line_checker::list_intervals::intervals_of_list;
 use line_checker::nodes::nodes_of_records;
-use opening::ends::{clear_scratch, refusal};
-use opening::{Opened, open, open_shared};
+use opening::ends::clear_scratch;
+use opening::{open, open_shared};
 use port_lines::{first_line, line_count, lines_at_port as view};
 use refusals::Refusal;
 use with_ports::check_list_with_ports;
 
 // Line check: whether a list of nodes is convex, and how many nodes the walk counted (the Rust's `is_node_convex`). Refusals 1 to 5, 7, 8, 9, 10.
-pub fn is_node_convex(map: &[u8], area: &mut [u16], list: &[u16]) -> LineAnswer
+pub fn is_node_convex(map: &[u8], area: &mut [u16], list: &[u16]) -> Result<Verdict, Refusal>
     ensures area_after { record { answer = line_said result; area = area.new }
         ≡ is_node_convex map.now area.old list.now }
     ensures line_promise { Trusted map.now area.old → StepList map.now list.now
         → LinePromise map.now area.old list.now (line_said result) }
 {
-    let opened = open(map, area);
-    let Opened::Ready(at) = opened else {
-        return LineAnswer::Refused(refusal(opened));
-    };
+    let at = open(map, area)?;
     let checked = check_list(map, at, area, list);
     clear_scratch(area, at);
     checked
@@ -52,17 +50,14 @@ pub fn is_convex(
     list: &[u16],
     inputs: &[u16],
     outputs: &[u16],
-) -> LineAnswer
+) -> Result<Verdict, Refusal>
     ensures area_after { record { answer = line_said result; area = area.new }
         ≡ is_convex map.now area.old list.now inputs.now outputs.now }
     ensures line_ports_promise { Trusted map.now area.old → StepList map.now list.now
         → KnownPorts map.now inputs.now → KnownPorts map.now outputs.now
         → LinePortsPromise map.now area.old list.now inputs.now outputs.now (line_said result) }
 {
-    let opened = open(map, area);
-    let Opened::Ready(at) = opened else {
-        return LineAnswer::Refused(refusal(opened));
-    };
+    let at = open(map, area)?;
     let ported = check_list_with_ports(map, at, area, list, inputs, outputs);
     clear_scratch(area, at);
     ported
@@ -74,14 +69,11 @@ pub fn is_convex_by_intervals(
     area: &mut [u16],
     records: &[u16],
     count: usize,
-) -> LineAnswer
+) -> Result<Verdict, Refusal>
     ensures { record { answer = line_said result; area = area.new }
         ≡ is_convex_by_intervals map.now area.old records.now count }
 {
-    let opened = open(map, area);
-    let Opened::Ready(at) = opened else {
-        return LineAnswer::Refused(refusal(opened));
-    };
+    let at = open(map, area)?;
     let recorded = check_by_records(map, at, area, records, count);
     clear_scratch(area, at);
     recorded
@@ -93,14 +85,11 @@ pub fn get_intervals_from_nodes(
     area: &mut [u16],
     list: &[u16],
     buffer: &mut [u16],
-) -> IntervalsAnswer
-    ensures { record { answer = intervals_said result; area = area.new; buffer = buffer.new }
+) -> Result<Option<usize>, Refusal>
+    ensures { record { answer = written_said result; area = area.new; buffer = buffer.new }
         ≡ get_intervals_from_nodes map.now area.old list.now buffer.old }
 {
-    let opened = open(map, area);
-    let Opened::Ready(at) = opened else {
-        return IntervalsAnswer::Refused(refusal(opened));
-    };
+    let at = open(map, area)?;
     let written = intervals_of_list(map, at, area, list, buffer);
     clear_scratch(area, at);
     written
@@ -113,14 +102,11 @@ pub fn try_extend_intervals(
     records: &mut [u16],
     count: usize,
     node: usize,
-) -> ExtendAnswer
-    ensures { record { answer = extend_said result; area = area.new; buffer = records.new }
+) -> Result<Option<usize>, Refusal>
+    ensures { record { answer = written_said result; area = area.new; buffer = records.new }
         ≡ try_extend_intervals map.now area.old records.old count node }
 {
-    let opened = open(map, area);
-    let Opened::Ready(at) = opened else {
-        return ExtendAnswer::Refused(refusal(opened));
-    };
+    let at = open(map, area)?;
     let extended = extend_records(map, at, area, records, count, node);
     clear_scratch(area, at);
     extended
@@ -133,33 +119,27 @@ pub fn nodes_in_intervals(
     records: &[u16],
     count: usize,
     buffer: &mut [u16],
-) -> NodesAnswer
-    ensures { record { answer = nodes_said result; area = area.new; buffer = buffer.new }
+) -> Result<usize, Refusal>
+    ensures { record { answer = answer_of result; area = area.new; buffer = buffer.new }
         ≡ nodes_in_intervals map.now area.old records.now count buffer.old }
 {
-    let opened = open(map, area);
-    let Opened::Ready(at) = opened else {
-        return NodesAnswer::Refused(refusal(opened));
-    };
+    let at = open(map, area)?;
     let found = nodes_of_records(map, at, area, records, count, buffer);
     clear_scratch(area, at);
     found
 }
 
 // Lines at a port: the first one's place in its node's list, and how many (the Rust's `lines_at_port`). Refusals 1 to 5, 7, 14.
-pub fn lines_at_port(map: &[u8], area: &mut [u16], port: usize) -> PortLines
-    ensures { record { answer = port_lines_said result; area = area.new } ≡ lines_at_port map.now area.old port }
+pub fn lines_at_port(map: &[u8], area: &mut [u16], port: usize) -> Result<(usize, usize), Refusal>
+    ensures { record { answer = answer_of result; area = area.new } ≡ lines_at_port map.now area.old port }
 {
-    let opened = open(map, area);
-    let Opened::Ready(at) = opened else {
-        return PortLines::Refused(refusal(opened));
-    };
+    let at = open(map, area)?;
     if at.sizes.ports <= port {
-        return PortLines::Refused(Refusal::UnknownPort(0));
+        return Err(Refusal::UnknownPort(0));
     }
     let first = first_line(map, at.sizes, port);
     let count = line_count(map, at.sizes, port);
-    PortLines::At(first, count)
+    Ok((first, count))
 }
 
 // The lines at a port themselves, as a part of the area: empty on refusal, and nothing is written. What is returned stands in the area itself.
@@ -167,8 +147,7 @@ pub fn view_lines_at_port<'a>(map: &[u8], area: &'a [u16], port: usize) -> &'a [
     ensures result_value { result.now ≡ view_of_port map.now area.now port }
     ensures starts_at { StartsAt result area.entry (part_at (view_at map.now area.now port)).0 }
 {
-    let opened = open_shared(map, area);
-    let Opened::Ready(at) = opened else {
+    let Ok(at) = open_shared(map, area) else {
         return &area[0..0];
     };
     if at.sizes.ports <= port {

@@ -2,21 +2,16 @@
 // refuses what 01 refuses, and leaves its tables in a lent area.
 ghost use Rattle.std.specs.Prelude.{◌≡◌};
 ghost use Rattle.paper.specs.Calls.{prepare};
-ghost use Rattle.answers.specs.Said.{prepared_said};
+ghost use Rattle.refusals.specs.Said.{answer_of};
 
-use answers::Prepared;
 use line_tables::lay_lines;
 use refusals::Refusal;
-use toposort::ordering::{Ordered, order_map, refusal};
+use toposort::ordering::order_map;
 
 // Prepares an area for any map (the Rust's `LineConvexChecker::new`): refusals 1 to 6 in their order, or the tables of the map's lines.
-pub fn prepare(map: &[u8], area: &mut [u16]) -> Prepared
-    ensures { record { answer = prepared_said result; area = area.new } ≡ prepare map.now area.old }
+pub fn prepare(map: &[u8], area: &mut [u16]) -> Result<usize, Refusal>
+    ensures { record { answer = answer_of result; area = area.new } ≡ prepare map.now area.old }
 {
-    let ordered = order_map(map, area);
-    let Ordered::Done(at, links) = ordered else {
-        return Prepared::Refused(refusal(ordered));
-    };
-    let count = lay_lines(map, at.sizes.nodes, at.sizes.links, at.sizes.ports, area);
-    Prepared::Lines(count)
+    let at = order_map(map, area)?.at;
+    Ok(lay_lines(map, at, area))
 }

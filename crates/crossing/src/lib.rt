@@ -7,7 +7,7 @@ ghost use Rattle.paper.specs.Words.{words_from};
 
 use words::bytes::words_from;
 
-// Room for the largest area: W is at most 31,751.
+// Room for the largest area: W is at most 31,751, which is said once for the twelve exports.
 pub fn area_room() -> [u16; 31751]
     ensures { length result ≡ 31751 }
 {

@@ -7,8 +7,9 @@ use native.Mathlib.Omega.{arith}
 use mathlib.Core.Path.{◌≡◌, refl, sym, ap, ◌∙◌, subst}
 use mathlib.Core.Bool.{Bool, true, false, true≢false, ◌&&◌, and-true, and-false}
 use mathlib.Core.List.{List}
+use Rattle.std.specs.Prelude.{Some, None}
 use Rattle.lists.specs.Lists.{In, any, keep, member, least}
-use Rattle.lists.specs.Found.{at}
+use Rattle.lists.specs.Found.{absent, at}
 use Rattle.lists.proofs.Sections.{part}
 use Rattle.paper.specs.Map.{N}
 use Rattle.paper.specs.Path.{fed_by, level_at, ends_at}
@@ -20,13 +21,11 @@ use Rattle.path_theory.proofs.levels.Alike.{Alike}
 use Rattle.path_theory.proofs.levels.Bounds.{closes, never_closes}
 use Rattle.tables.specs.Within.{Within}
 use Rattle.tables.proofs.Within.{within_none, within_both}
+use Rattle.distances.specs.declared.queue.Queue.{Queue}
 use Rattle.distances.specs.Met.{met_size, tells, listed_of, Joins}
 use Rattle.distances.specs.Reached.{Reached, targets_in}
-use Rattle.distances.specs.Smallest.{smallest, smallest_said}
+use Rattle.distances.specs.Smallest.{smallest}
 use Rattle.distances.specs.Closed.{Closed}
-use Rattle.distances.specs.declared.closing.Closing.TheVariants.{Never, At as ClosedAt}
-use Rattle.distances.specs.declared.closing.Smallest.{Smallest}
-use Rattle.distances.specs.declared.closing.Smallest.TheVariants.{Absent, At}
 use Rattle.distances.proofs.Joining.{joins_rise, joins-keep}
 use Rattle.distances.proofs.Reaching.{fed_are, fed_known, reaches}
 use Rattle.distances.proofs.Smallest.{smallest-none, smallest-some, smallest-least}
@@ -60,118 +59,113 @@ member-keep f xs v =
     back true t m p e = in_member v (keep f xs) (in_keep f v xs (p ∙ e) (member_in v xs m))
     back false t m p e = absurd (true≢false (sym e))
 
-module _ {b list a : List ℕ} {queue n from to d : ℕ} (s : Sound b) (nodes : N b ≡ n) (r : Reached b list a queue n from to d) where
+module _ {b list a : List ℕ} {queue : Queue} {from to d : ℕ} (s : Sound b) (nodes : N b ≡ queue.nodes) (r : Reached b list a queue from to d) where
   -- the listed ones of what the last ones are linked to
-  ends_are : Alike (listed_of a queue n (targets_in b a queue from to)) (ends_at b list d)
+  ends_are : Alike (listed_of a queue (targets_in b a queue.start from to)) (ends_at b list d)
   unfolding listed_of ends_at
   ends_are v =
-      member-keep (λ w. tells a queue n w 0) (targets_in b a queue from to) v ∙ go (member v (targets_in b a queue from to)) refl
+      member-keep (λ w. tells a queue w 0) (targets_in b a queue.start from to) v ∙ go (member v (targets_in b a queue.start from to)) refl
       ∙ sym (member-keep (fed_by b (level_at b list d)) list v)
     where
-      go : (t : Bool) → member v (targets_in b a queue from to) ≡ t → (member v (targets_in b a queue from to) && tells a queue n v 0)
+      go : (t : Bool) → member v (targets_in b a queue.start from to) ≡ t → (member v (targets_in b a queue.start from to) && tells a queue v 0)
           ≡ (member v list && fed_by b (level_at b list d) v)
       go true e = rw (sym (fed_are s nodes r v) ∙ e, e) (r.told.level 0 v (omega arith) (fed_known s nodes r v e) ∙ ap (member v) (level_zero b list) ∙ sym (and-true (member v list)))
       go false e = rw (sym (fed_are s nodes r v) ∙ e, e) (sym (and-false (member v list)))
 
-  module _ {found : Smallest} (said : smallest_said found ≡ smallest (listed_of a queue n (targets_in b a queue from to))) where
-    -- none was found: this distance does not close
-    stays_open : found ≡ Absent → any (fed_by b (level_at b list d)) list ≡ false
+  -- none was found: this distance does not close
+  stays_open : absent ≡ smallest (listed_of a queue (targets_in b a queue.start from to)) → any (fed_by b (level_at b list d)) list ≡ false
+  unfolding ends_at
+  stays_open e =
+      no_end (fed_by b (level_at b list d)) list
+      (λ v. sym (ends_are v) ∙ smallest-none (listed_of a queue (targets_in b a queue.start from to)) (sym e) v)
+
+  module _ {w : ℕ} (e : at w ≡ smallest (listed_of a queue (targets_in b a queue.start from to))) where
+    shuts : any (fed_by b (level_at b list d)) list ≡ true
     unfolding ends_at
-    stays_open e =
-        no_end (fed_by b (level_at b list d)) list
-        (λ v. sym (ends_are v) ∙ smallest-none (listed_of a queue n (targets_in b a queue from to)) (sym said ∙ ap smallest_said e) v)
+    shuts =
+        let there = smallest-some (listed_of a queue (targets_in b a queue.start from to)) (sym e) in
+        some_end (fed_by b (level_at b list d)) list there.0 (sym (ends_are there.0) ∙ there.1)
 
-    module _ {w : ℕ} (e : found ≡ At w) where
-      is_at : smallest (listed_of a queue n (targets_in b a queue from to)) ≡ at w
-      is_at = sym said ∙ ap smallest_said e
-
-      shuts : any (fed_by b (level_at b list d)) list ≡ true
-      unfolding ends_at
-      shuts =
-          let there = smallest-some (listed_of a queue n (targets_in b a queue from to)) is_at in
-          some_end (fed_by b (level_at b list d)) list there.0 (sym (ends_are there.0) ∙ there.1)
-
-      end-least : w ≡ least (ends_at b list d)
-      end-least = smallest-least (listed_of a queue n (targets_in b a queue from to)) (ends_at b list d) ends_are is_at
+    end-least : w ≡ least (ends_at b list d)
+    end-least = smallest-least (listed_of a queue (targets_in b a queue.start from to)) (ends_at b list d) ends_are (sym e)
 
 -- ---- round by round
 
 -- after d rounds from the first `count` nodes none of the distances up to d has closed
-pub record Open (b a : List ℕ) (queue n count from to d : ℕ) (m : List ℕ) : Type 0 where
-  pub reached : Reached b (part a queue count) m queue n from to d
-  pub before : (e : ℕ) → e < d → any (fed_by b (level_at b (part a queue count) (suc e))) (part a queue count) ≡ false
-  pub list : part m queue count ≡ part a queue count
+pub record Open (b a : List ℕ) (queue : Queue) (count from to d : ℕ) (m : List ℕ) : Type 0 where
+  pub reached : Reached b (part a queue.start count) m queue from to d
+  pub before : (e : ℕ) → e < d → any (fed_by b (level_at b (part a queue.start count) (suc e))) (part a queue.start count) ≡ false
+  pub list : part m queue.start count ≡ part a queue.start count
   pub more : count ≤ to
-  pub kept : Within queue (met_size n) a m
+  pub kept : Within queue.start (met_size queue.nodes) a m
 
-module _ {b a : List ℕ} {queue n count : ℕ} where
-  pub open_first : Reached b (part a queue count) a queue n 0 count 0 → Open b a queue n count 0 count 0 a
+module _ {b a : List ℕ} {queue : Queue} {count : ℕ} where
+  pub open_first : Reached b (part a queue.start count) a queue 0 count 0 → Open b a queue count 0 count 0 a
   open_first r =
       record { reached = r; before = λ e h. absurd (omega arith); list = refl; more = omega arith; kept = within_none }
 
   -- while there are last ones, another round stays within the nodes
-  pub not_far : {from to d : ℕ} {m : List ℕ} → Open b a queue n count from to d m → from < to → d + 1 ≤ n
+  pub not_far : {from to d : ℕ} {m : List ℕ} → Open b a queue count from to d m → from < to → d + 1 ≤ queue.nodes
   not_far o some = omega (arith, o.reached.deep, o.reached.met.few)
 
   -- a round brought no step
-  pub never : {from to d : ℕ} {m : List ℕ} → Open b a queue n count from to d m → to ≤ from → Closed b a queue n count Never m
+  pub never : {from to d : ℕ} {m : List ℕ} → Open b a queue count from to d m → to ≤ from → Closed b a queue count None m
   never {from} {to} {d} {m} o h =
       record {
-        closes = never_closes b (part a queue count) d (nobody (level_at b (part a queue count) d) none) o.before;
+        closes = never_closes b (part a queue.start count) d (nobody (level_at b (part a queue.start count) d) none) o.before;
         list = o.list;
         kept = o.kept;
       }
     where
-      nothing : (x y : ℕ) → y ≤ x → (u : ℕ) → member u (part m (queue + x) (y - x)) ≡ false
-      nothing x y l u = let z : y - x ≡ 0 = omega arith in ap (λ (k : ℕ). member u (part m (queue + x) k)) z
+      nothing : (x y : ℕ) → y ≤ x → (u : ℕ) → member u (part m (queue.start + x) (y - x)) ≡ false
+      nothing x y l u = let z : y - x ≡ 0 = omega arith in ap (λ (k : ℕ). member u (part m (queue.start + x) k)) z
 
-      none : (u : ℕ) → In u (level_at b (part a queue count) d) → ⊥
-      none u i = true≢false (sym (in_member u (level_at b (part a queue count) d) i) ∙ sym (o.reached.last u) ∙ nothing from to h u)
+      none : (u : ℕ) → In u (level_at b (part a queue.start count) d) → ⊥
+      none u i = true≢false (sym (in_member u (level_at b (part a queue.start count) d) i) ∙ sym (o.reached.last u) ∙ nothing from to h u)
 
-  module _ (s : Sound b) (nodes : N b ≡ n) {from to d grown : ℕ} {m o : List ℕ} (now : Open b a queue n count from to d m) (some : from < to)
-      (j : Joins m queue n to (targets_in b m queue from to) (d + 1) grown o) where
-    pub next-reached : Reached b (part a queue count) o queue n to grown (d + 1)
+  module _ (s : Sound b) (nodes : N b ≡ queue.nodes) {from to d grown : ℕ} {m o : List ℕ} (now : Open b a queue count from to d m) (some : from < to)
+      (j : Joins m queue to (targets_in b m queue.start from to) (d + 1) grown o) where
+    pub next-reached : Reached b (part a queue.start count) o queue to grown (d + 1)
     next-reached = reaches s nodes now.reached j some
 
-    next-list : part o queue count ≡ part a queue count
+    next-list : part o queue.start count ≡ part a queue.start count
     next-list = joins-keep now.reached.met j count now.more ∙ now.list
 
-    next-kept : Within queue (met_size n) a o
+    next-kept : Within queue.start (met_size queue.nodes) a o
     next-kept = within_both now.kept j.kept
 
-    module _ {found : Smallest} (said : smallest_said found ≡ smallest (listed_of o queue n (targets_in b o queue to grown))) where
-      pub goes_on : found ≡ Absent → Open b a queue n count to grown (d + 1) o
-      goes_on e =
-          record {
-            reached = next-reached;
-            before = λ k h. go k h (dec_lt k d);
-            list = next-list;
-            more = omega (arith, now.more, joins_rise now.reached.met j);
-            kept = next-kept;
-          }
-        where
-          here : (k : ℕ) → suc k ≡ d + 1 → any (fed_by b (level_at b (part a queue count) (suc k))) (part a queue count) ≡ false
-          here k z =
-              ap (λ (x : ℕ). any (fed_by b (level_at b (part a queue count) x)) (part a queue count)) z ∙ stays_open s nodes next-reached said e
+    pub goes_on : absent ≡ smallest (listed_of o queue (targets_in b o queue.start to grown)) → Open b a queue count to grown (d + 1) o
+    goes_on e =
+        record {
+          reached = next-reached;
+          before = λ k h. go k h (dec_lt k d);
+          list = next-list;
+          more = omega (arith, now.more, joins_rise now.reached.met j);
+          kept = next-kept;
+        }
+      where
+        here : (k : ℕ) → suc k ≡ d + 1 → any (fed_by b (level_at b (part a queue.start count) (suc k))) (part a queue.start count) ≡ false
+        here k z =
+            ap (λ (x : ℕ). any (fed_by b (level_at b (part a queue.start count) x)) (part a queue.start count)) z ∙ stays_open s nodes next-reached e
 
-          go : (k : ℕ) → k < d + 1 → Dec (k < d) → any (fed_by b (level_at b (part a queue count) (suc k))) (part a queue count) ≡ false
-          go k h (yes l) = now.before k l
-          go k h (no l) = here k (omega arith)
+        go : (k : ℕ) → k < d + 1 → Dec (k < d) → any (fed_by b (level_at b (part a queue.start count) (suc k))) (part a queue.start count) ≡ false
+        go k h (yes l) = now.before k l
+        go k h (no l) = here k (omega arith)
 
-      pub closes_here : {w : ℕ} → found ≡ At w → Closed b a queue n count (ClosedAt (d + 1) w) o
-      closes_here e =
-          record {
-            closes =
-                record {
-                  below = d;
-                  distance = add-one d;
-                  first =
-                      closes b (part a queue count) d
-                      (subst (λ (x : ℕ). any (fed_by b (level_at b (part a queue count) x)) (part a queue count) ≡ true) (add-one d)
-                      (shuts s nodes next-reached said e)) now.before;
-                  smallest = end-least s nodes next-reached said e;
-                  told = next-reached.told;
-                };
-            list = next-list;
-            kept = next-kept;
-          }
+    pub closes_here : {w : ℕ} → at w ≡ smallest (listed_of o queue (targets_in b o queue.start to grown)) → Closed b a queue count (Some (d + 1, w)) o
+    closes_here e =
+        record {
+          closes =
+              record {
+                below = d;
+                distance = add-one d;
+                first =
+                    closes b (part a queue.start count) d
+                    (subst (λ (x : ℕ). any (fed_by b (level_at b (part a queue.start count) x)) (part a queue.start count) ≡ true) (add-one d)
+                    (shuts s nodes next-reached e)) now.before;
+                smallest = end-least s nodes next-reached e;
+                told = next-reached.told;
+              };
+          list = next-list;
+          kept = next-kept;
+        }

@@ -1,19 +1,19 @@
 -- The smallest of a list found piece by piece, and that it is the least of any list with the same members.
 -- Rests on path_theory.Alike (lists with the same members).
-use Prim.Native.Nat.{ℕ, ◌<◌, ◌≤◌, min}
+use Prim.Native.Nat.{ℕ, min}
 use native.Mathlib.Omega.{arith}
 use mathlib.Core.Path.{◌≡◌, refl, sym, ap, ◌∙◌}
 use mathlib.Core.Bool.{Bool, true, false, ◌||◌, cond}
 use mathlib.Core.List.{List, [], ◌∷◌, ◌++◌, append_assoc}
 use borrow.Author.Tests.{eq-eqb}
+use Rattle.std.specs.Prelude.{Option, Some, None, unwrap_or}
 use Rattle.lists.specs.Lists.{member, least}
-use Rattle.lists.specs.Found.{Found, absent, at, listed}
+use Rattle.lists.specs.Found.{Found, absent, at, found_of, listed}
 use Rattle.lists.proofs.Upto.{keep_append}
 use Rattle.path_theory.proofs.levels.Alike.{Alike, least_alike}
+use Rattle.distances.specs.declared.queue.Queue.{Queue}
 use Rattle.distances.specs.Met.{tells, listed_of}
-use Rattle.distances.specs.Smallest.{smallest, smallest_said}
-use Rattle.distances.specs.declared.closing.Smallest.{Smallest}
-use Rattle.distances.specs.declared.closing.Smallest.TheVariants.{Absent, At}
+use Rattle.distances.specs.Smallest.{smallest}
 
 -- ---- piece by piece
 
@@ -31,6 +31,11 @@ pub found-on : (found : Found) {next last : Found} (xs ys : List ℕ) → next �
     → last ≡ smallest (listed found ++ (xs ++ ys))
 found-on found xs ys e g =
     g ∙ ap (λ (f : Found). smallest (listed f ++ ys)) e ∙ smallest-append (listed found ++ xs) ys ∙ ap smallest (append_assoc (listed found) xs ys)
+
+-- one more
+pub with_one : (found : Option ℕ) (v : ℕ) {u w : ℕ} → u ≡ unwrap_or found v → w ≡ min u v → at w ≡ smallest (listed (found_of found) ++ (v ∷ []))
+with_one None v e g = ap at (omega (arith, e, g))
+with_one (Some u) v e g = ap at (g ∙ ap (λ (x : ℕ). min x v) e)
 
 pub found_nothing : (found : Found) → found ≡ smallest (listed found ++ [])
 found_nothing absent = refl
@@ -54,38 +59,25 @@ module _ (xs ys : List ℕ) (same : Alike xs ys) {w : ℕ} (found : smallest xs 
       go [] e = absurd (let z : ◌≡◌ {A = ℕ} 0 1 = cc in omega arith)
       go (z ∷ zs) e = cc
 
--- ---- a node more
-
-module _ (found : Smallest) (v : ℕ) where
-  pub smaller_of_none : found ≡ Absent → at v ≡ smallest (listed (smallest_said found) ++ (v ∷ []))
-  smaller_of_none e = rw e
-
-  module _ {u : ℕ} (e : found ≡ At u) where
-    pub smaller-new : v < u → at v ≡ smallest (listed (smallest_said found) ++ (v ∷ []))
-    smaller-new h = ap at (omega arith) ∙ ap (λ (f : Smallest). smallest (listed (smallest_said f) ++ (v ∷ []))) (sym e)
-
-    pub smaller_old : u ≤ v → at u ≡ smallest (listed (smallest_said found) ++ (v ∷ []))
-    smaller_old h = ap at (omega arith) ∙ ap (λ (f : Smallest). smallest (listed (smallest_said f) ++ (v ∷ []))) (sym e)
-
 -- ---- the listed ones of some nodes
 
-module _ (a : List ℕ) (queue n : ℕ) (found : Found) where
-  module _ (v : ℕ) {r : Bool} (said : r ≡ tells a queue n v 0) where
-    pub with_listed : {next : Found} → r ≡ true → next ≡ smallest (listed found ++ (v ∷ [])) → next ≡ smallest (listed found ++ listed_of a queue n (v ∷ []))
+module _ (a : List ℕ) (queue : Queue) (found : Found) where
+  module _ (v : ℕ) {r : Bool} (said : r ≡ tells a queue v 0) where
+    pub with_listed : {next : Found} → r ≡ true → next ≡ smallest (listed found ++ (v ∷ [])) → next ≡ smallest (listed found ++ listed_of a queue (v ∷ []))
     unfolding listed_of
     with_listed e g = g ∙ ap (λ (t : Bool). smallest (listed found ++ cond t (v ∷ []) [])) (sym e ∙ said)
 
-    pub without-listed : r ≡ false → found ≡ smallest (listed found ++ listed_of a queue n (v ∷ []))
+    pub without-listed : r ≡ false → found ≡ smallest (listed found ++ listed_of a queue (v ∷ []))
     unfolding listed_of
     without-listed e = found_nothing found ∙ ap (λ (t : Bool). smallest (listed found ++ cond t (v ∷ []) [])) (sym e ∙ said)
 
-  pub listed-none : {xs : List ℕ} → xs ≡ [] → found ≡ smallest (listed found ++ listed_of a queue n xs)
+  pub listed-none : {xs : List ℕ} → xs ≡ [] → found ≡ smallest (listed found ++ listed_of a queue xs)
   unfolding listed_of
-  listed-none e = found_nothing found ∙ ap (λ (ys : List ℕ). smallest (listed found ++ listed_of a queue n ys)) (sym e)
+  listed-none e = found_nothing found ∙ ap (λ (ys : List ℕ). smallest (listed found ++ listed_of a queue ys)) (sym e)
 
-  pub listed-on : {next last : Found} {zs : List ℕ} (xs ys : List ℕ) → next ≡ smallest (listed found ++ listed_of a queue n xs)
-      → last ≡ smallest (listed next ++ listed_of a queue n ys) → zs ≡ xs ++ ys → last ≡ smallest (listed found ++ listed_of a queue n zs)
+  pub listed-on : {next last : Found} {zs : List ℕ} (xs ys : List ℕ) → next ≡ smallest (listed found ++ listed_of a queue xs)
+      → last ≡ smallest (listed next ++ listed_of a queue ys) → zs ≡ xs ++ ys → last ≡ smallest (listed found ++ listed_of a queue zs)
   unfolding listed_of
   listed-on xs ys e g whole =
-      found-on found (listed_of a queue n xs) (listed_of a queue n ys) e g
-      ∙ ap (λ (us : List ℕ). smallest (listed found ++ us)) (sym (keep_append (λ w. tells a queue n w 0) xs ys) ∙ ap (listed_of a queue n) (sym whole))
+      found-on found (listed_of a queue xs) (listed_of a queue ys) e g
+      ∙ ap (λ (us : List ℕ). smallest (listed found ++ us)) (sym (keep_append (λ w. tells a queue w 0) xs ys) ∙ ap (listed_of a queue) (sym whole))

@@ -1,19 +1,19 @@
 -- The answer's meaning tells its cases apart.
 -- Rests on Extended's definitions.
+use Prim.Native.Nat.{ℕ}
 use mathlib.Core.Path.{◌≡◌, refl, sym, ap, ◌∙◌}
 use Rattle.paper.specs.Calls.{Written, wrote, found_apart}
-use Rattle.extension.specs.declared.Extended.{Extended}
-use Rattle.extension.specs.declared.Extended.TheVariants.{Records as Made, NotExtendable}
+use Rattle.std.specs.Prelude.{Option, Some, None}
 use Rattle.extension.specs.Extended.{extended_said}
 
-meant : Written → Extended
-meant (wrote count) = Made count
-meant found_apart = NotExtendable
+meant : Written → Option ℕ
+meant (wrote count) = Some count
+meant found_apart = None
 
-meant_said : (r : Extended) → meant (extended_said r) ≡ r
+meant_said : (r : Option ℕ) → meant (extended_said r) ≡ r
 unfolding meant
-meant_said (Made count) = refl
-meant_said NotExtendable = refl
+meant_said (Some count) = refl
+meant_said None = refl
 
-pub extended_said_injective : (r s : Extended) → extended_said r ≡ extended_said s → r ≡ s
+pub extended_said_injective : (r s : Option ℕ) → extended_said r ≡ extended_said s → r ≡ s
 extended_said_injective r s e = sym (meant_said r) ∙ ap meant e ∙ meant_said s

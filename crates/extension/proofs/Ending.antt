@@ -25,8 +25,7 @@ use Rattle.tables.specs.Recorded.{Recorded, Unmarked, Marked, Slotted}
 use Rattle.tables.proofs.Words.{count-few, position-is, lines_are, line_known}
 use Rattle.records.specs.declared.layout.LineSlots.{LineSlots}
 use Rattle.records.proofs.Reasons.{is-good, same_record, few-records}
-use Rattle.extension.specs.declared.Extended.{Extended}
-use Rattle.extension.specs.declared.Extended.TheVariants.{Records as Made, NotExtendable}
+use Rattle.std.specs.Prelude.{Option, Some, None}
 use Rattle.extension.specs.Extended.{extended_said, records_left, ExtendsTo}
 use Rattle.extension.specs.Room.{OwnLines, Ahead, LinesReady, LinesExtended, Copied}
 use Rattle.extension.proofs.Putting.{copied_record}
@@ -140,7 +139,7 @@ module _ {b a : List ℕ} {at : Layout} (usable : Usable b a at) where
             ∙ ap (λ (rs : List Interval). extend_lines b a (position b a v) (lines_of b a v) (records rs))
             (table_same (record_at start) (record_at words) count (copied_record count copied))
 
-        pub extended : {r : Extended} {after : List ℕ} → LinesExtended b a lines start count q r after → ExtendsTo b a words count v room r after
+        pub extended : {r : Option ℕ} {after : List ℕ} → LinesExtended b a lines start count q r after → ExtendsTo b a words count v room r after
         unfolding said words_of records_in
         extended {r} {after} whole =
             record {
@@ -152,11 +151,11 @@ module _ {b a : List ℕ} {at : Layout} (usable : Usable b a at) where
             is-extend : records_left r after ≡ extend b a (records_in words count) v
             is-extend = whole.says ∙ of_node
 
-            meant : (r : Extended) → extended_said r ≡ said (records_left r after)
-            meant (Made c) = ap wrote (sym (length-table (record_at after) c))
-            meant NotExtendable = refl
+            meant : (r : Option ℕ) → extended_said r ≡ said (records_left r after)
+            meant (Some c) = ap wrote (sym (length-table (record_at after) c))
+            meant None = refl
 
-            words_there : (r : Extended) → ((c : ℕ) → r ≡ Made c → 3 * c ≤ length after)
+            words_there : (r : Option ℕ) → ((c : ℕ) → r ≡ Some c → 3 * c ≤ length after)
                 → take (length (words_of (records_left r after))) after ≡ words_of (records_left r after)
-            words_there (Made c) fits = taken_words after c (fits c refl)
-            words_there NotExtendable fits = refl
+            words_there (Some c) fits = taken_words after c (fits c refl)
+            words_there None fits = refl

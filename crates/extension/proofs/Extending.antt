@@ -26,7 +26,7 @@ use Rattle.on_line.proofs.Along.{handed, along-is, line_at}
 use Rattle.records.specs.declared.layout.LineSlots.{LineSlots}
 use Rattle.records.proofs.Few.{no_more, room-left}
 use Rattle.extension.specs.Room.{record_of, Put, Growing, Grew, OwnLines, LineReady, Changed, LineExtended}
-use Rattle.extension.specs.declared.Extended.TheVariants.{Records as Made, NotExtendable}
+use Rattle.std.specs.Prelude.{Some, None}
 use Rattle.extension.proofs.Lines.{extend-new, extend_at, extend_not}
 
 -- no more records than lines
@@ -54,7 +54,7 @@ module _ {b a : List ℕ} {at : Layout} (usable : Usable b a at) {slots : LineSl
           ready.fits,
         )
 
-    pub new_record : {after : List ℕ} → Put room made (record_of x q q) after → LineExtended b a room made q x (Made (made + 1)) after
+    pub new_record : {after : List ℕ} → Put room made (record_of x q q) after → LineExtended b a room made q x (Some (made + 1)) after
     unfolding records_in
     new_record {after} put =
         record {
@@ -130,7 +130,7 @@ module _ {b a : List ℕ} {at : Layout} (usable : Usable b a at) {slots : LineSl
         grew_along : Grew (along b a x) room slot q grown after
         grew_along = subst (λ (line : List ℕ). Grew line room slot q grown after) line-is grew
 
-        pub grown_record : not grown ≡ false → LineExtended b a room made q x (Made made) after
+        pub grown_record : not grown ≡ false → LineExtended b a room made q x (Some made) after
         unfolding records_in
         grown_record e =
             record {
@@ -154,7 +154,7 @@ module _ {b a : List ℕ} {at : Layout} (usable : Usable b a at) {slots : LineSl
                   free = λ h. absurd (omega arith);
                 }
 
-        pub stopped_record : not grown ≡ true → LineExtended b a room made q x NotExtendable after
+        pub stopped_record : not grown ≡ true → LineExtended b a room made q x None after
         unfolding records_in
         stopped_record e =
             record {

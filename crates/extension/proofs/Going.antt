@@ -14,8 +14,7 @@ use Rattle.paper.specs.Refusals.{on_line}
 use Rattle.tables.specs.declared.Layout.{Layout}
 use Rattle.tables.specs.Usable.{Usable}
 use Rattle.records.specs.declared.layout.LineSlots.{LineSlots}
-use Rattle.extension.specs.declared.Extended.{Extended}
-use Rattle.extension.specs.declared.Extended.TheVariants.{Records as Made, NotExtendable}
+use Rattle.std.specs.Prelude.{Option, Some, None}
 use Rattle.extension.specs.Extended.{records_left}
 use Rattle.extension.specs.Room.{OwnLines, Ahead, LineReady, Changed, LineExtended, LinesReady, LinesExtended}
 use Rattle.extension.proofs.Lines.{none_left}
@@ -24,7 +23,6 @@ use Rattle.extension.proofs.Extending.{few-made}
 
 -- after i lines `made` records stand in the room
 pub record Going (b a : List ℕ) (at : Layout) (slots : LineSlots) (lines start : List ℕ) (count p : ℕ) (room : List ℕ) (made i : ℕ) : Type 0 where
-  pub passed : i ≤ length lines
   pub own : OwnLines b a room made
   pub ahead : (j : ℕ) → i ≤ j → j < length lines → Ahead b a slots room made (get_or lines j 0)
   pub rest : extend_lines b a p (drop i lines) (records (records_in room made)) ≡ extend_lines b a p lines (records (records_in start count))
@@ -32,7 +30,7 @@ pub record Going (b a : List ℕ) (at : Layout) (slots : LineSlots) (lines start
 
 module _ {b a : List ℕ} {at : Layout} {slots : LineSlots} {lines start : List ℕ} {count p : ℕ} (ready : LinesReady b a at slots lines start count p) where
   pub at_first : Going b a at slots lines start count p start count 0
-  at_first = record { passed = omega arith; own = ready.own; ahead = λ j low h. ready.ahead j h; rest = refl; long = refl }
+  at_first = record { own = ready.own; ahead = λ j low h. ready.ahead j h; rest = refl; long = refl }
 
   module _ {room : List ℕ} {made i : ℕ} (going : Going b a at slots lines start count p room made i) where
     module _ (h : i < length lines) {x : ℕ} (read : x ≡ get_or lines i 0) where
@@ -47,40 +45,36 @@ module _ {b a : List ℕ} {at : Layout} {slots : LineSlots} {lines start : List 
             fits = omega (arith, ready.fits, going.long);
           }
 
-      module _ {r : Extended} {after : List ℕ} (extended : LineExtended b a room made p x r after) where
-        to_do : extend_lines b a p (drop (i + 1) lines) (records_left r after) ≡ extend_lines b a p lines (records (records_in start count))
+      module _ {after : List ℕ} where
+        to_do : {r : Option ℕ} → LineExtended b a room made p x r after → extend_lines b a p (drop (i + 1) lines) (records_left r after) ≡ extend_lines b a p lines (records (records_in start count))
         unfolding extend_lines
-        to_do =
+        to_do extended =
             ap₂ (λ (k : ℕ) (e : Records). extend_lines b a p (drop k lines) e) (add-one i) extended.says
             ∙ ap (λ (y : ℕ). extend_lines b a p (drop (suc i) lines) (extend_line b a p y (records_in room made))) read
             ∙ ap (λ (ls : List ℕ). extend_lines b a p ls (records (records_in room made))) (sym (drop-cons lines i 0 h))
             ∙ going.rest
 
-        pub stops : r ≡ NotExtendable → LinesExtended b a lines start count p NotExtendable after
-        stops e =
+        pub stops : LineExtended b a room made p x None after → LinesExtended b a lines start count p None after
+        stops extended =
             record {
-              says =
-                  sym (none_left b a p (drop (i + 1) lines))
-                  ∙ ap (λ (s : Extended). extend_lines b a p (drop (i + 1) lines) (records_left s after)) (sym e)
-                  ∙ to_do;
+              says = sym (none_left b a p (drop (i + 1) lines)) ∙ to_do extended;
               whole = λ c f. absurd (let z : ◌≡◌ {A = ℕ} 0 1 = cc in omega arith);
               long = extended.long ∙ going.long;
             }
 
-        pub goes : {c : ℕ} → r ≡ Made c → Going b a at slots lines start count p after c (i + 1)
-        goes {c} e =
+        pub goes : {c : ℕ} → LineExtended b a room made p x (Some c) after → Going b a at slots lines start count p after c (i + 1)
+        goes {c} extended =
             record {
-              passed = omega arith;
               own = own_still changed going.own (omega (arith, ready.known i h));
               ahead = λ j low g. ahead_still changed (λ o. ready.lone i j (omega arith) g (sym read ∙ sym o)) (going.ahead j (omega arith) g);
-              rest = ap (λ (s : Extended). extend_lines b a p (drop (i + 1) lines) (records_left s after)) (sym e) ∙ to_do;
+              rest = to_do extended;
               long = extended.long ∙ going.long;
             }
           where
             changed : Changed room made x after c
-            changed = extended.changed c e
+            changed = extended.changed c refl
 
-    pub ends : Usable b a at → length lines ≤ i → LinesExtended b a lines start count p (Made made) room
+    pub ends : Usable b a at → length lines ≤ i → LinesExtended b a lines start count p (Some made) room
     unfolding extend_lines
     ends usable h =
         record {

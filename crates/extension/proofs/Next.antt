@@ -9,12 +9,9 @@ use mathlib.Core.List.{List, [], ◌∷◌, map}
 use lib.ListN.{length, get_or}
 use lib.Dec.{eqb, ltb}
 use Rattle.lists.specs.Lists.{keep}
-use Rattle.lists.specs.Found.{Found, at, is_absent, number, is_at, front, listed}
+use Rattle.lists.specs.Found.{Found, absent, at, is_absent, number, is_at, front, listed}
 use Rattle.paper.specs.Records.{next_position}
 use Rattle.lookup.specs.Line.{Line, positions_on}
-use Rattle.lookup.specs.Said.{next_said}
-use Rattle.lookup.specs.declared.Next.{Next}
-use Rattle.lookup.specs.declared.Next.TheVariants.{Node, End}
 
 -- what comes after a position is above it
 pub not_next : (line : List ℕ) (p q : ℕ) → q ≤ p → is_at q (next_position line p) ≡ false
@@ -49,20 +46,22 @@ first-known f k (x ∷ xs) known u e = go (f x) e (first-known f k xs (λ i h. k
     go true same rest = omega (arith, ap number same, known 0 (omega arith))
     go false same rest = rest same
 
-module _ (nodes positions : List ℕ) (q : ℕ) {found : Next} (said : next_said found ≡ front (keep (λ v. ltb q (get_or positions v 0)) nodes)) where
-  after : {was : Next} → found ≡ was → next_position (positions_on nodes positions) q ≡ front (map (λ v. get_or positions v 0) (listed (next_said was)))
+module _ (nodes positions : List ℕ) (q : ℕ) where
+  after : {found : Found} → found ≡ front (keep (λ v. ltb q (get_or positions v 0)) nodes)
+      → next_position (positions_on nodes positions) q ≡ front (map (λ v. get_or positions v 0) (listed found))
   unfolding next_position positions_on
-  after e =
+  after said =
       ap front (kept-values (λ v. get_or positions v 0) q nodes)
       ∙ front_value (λ v. get_or positions v 0) (keep (λ v. ltb q (get_or positions v 0)) nodes)
-      ∙ ap (λ (f : Found). front (map (λ v. get_or positions v 0) (listed f))) (sym said ∙ ap next_said e)
+      ∙ ap (λ (f : Found). front (map (λ v. get_or positions v 0) (listed f))) (sym said)
 
-  pub line-end : found ≡ End → (next : ℕ) → false ≡ is_at next (next_position (positions_on nodes positions) q)
-  line-end e next = sym (ap (is_at next) (after e))
+  pub line-end : absent ≡ front (keep (λ v. ltb q (get_or positions v 0)) nodes) → (next : ℕ)
+      → false ≡ is_at next (next_position (positions_on nodes positions) q)
+  line-end said next = sym (ap (is_at next) (after said))
 
-  module _ {u : ℕ} (e : found ≡ Node u) where
+  module _ {u : ℕ} (said : at u ≡ front (keep (λ v. ltb q (get_or positions v 0)) nodes)) where
     pub node-there : Line nodes positions → u < length positions
-    node-there line = first-known (λ v. ltb q (get_or positions v 0)) (length positions) nodes line.known u (sym (ap next_said e) ∙ said)
+    node-there line = first-known (λ v. ltb q (get_or positions v 0)) (length positions) nodes line.known u said
 
     pub node-next : {w : ℕ} → w ≡ get_or positions u 0 → (next : ℕ) → eqb w next ≡ is_at next (next_position (positions_on nodes positions) q)
-    node-next is next = ap (λ (w : ℕ). eqb w next) is ∙ sym (ap (is_at next) (after e))
+    node-next is next = ap (λ (w : ℕ). eqb w next) is ∙ sym (ap (is_at next) (after said))

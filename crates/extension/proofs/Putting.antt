@@ -1,12 +1,12 @@
--- Records written and copied word by word: the record is there whole, and no other record changes.
+-- Records written word by word and copied: the record is there whole, and no other record changes.
 -- Rests on lib.Seq.
 use Prim.Native.Nat.{ℕ, ◌+◌, ◌*◌, ◌≤◌, ◌<◌}
-use native.Mathlib.Decide.{ℕ_discrete}
 use native.Mathlib.Omega.{arith}
-use mathlib.Core.Path.{◌≡◌, sym, ap, ap₂, ◌∙◌}
-use mathlib.Core.List.{List}
-use lib.ListN.{length, get_or, set, length-set}
-use lib.Seq.{get_or-set_same, get_or-set_other}
+use mathlib.Core.Path.{◌≡◌, ap, ap₂, ◌∙◌}
+use mathlib.Core.List.{List, ◌++◌}
+use lib.ListN.{length, get_or, set, take, drop, length-set, get_or-append}
+use lib.Seq.{get_or-set_same, get_or-set_other, get_or-take, length-take-le}
+use Rattle.std.proofs.Common.{length-append, length-drop}
 use Rattle.paper.specs.Records.{record_at}
 use Rattle.extension.specs.Room.{record_of, Put, Copied}
 
@@ -62,18 +62,15 @@ module _ (room : List ℕ) (i x low high : ℕ) (whole : 3 * i + 2 < length room
 
 -- ---- copied words
 
-pub copied_next : {words room after : List ℕ} {i : ℕ} → Copied words i room after → i < length room → Copied words (i + 1) room (set after i (get_or words i 0))
-copied_next {words} {room} {after} {i} before h =
-    record { same = λ j l. go j l (ℕ_discrete j i); long = length-set after i (get_or words i 0) ∙ before.long }
+pub copied : {words room own : List ℕ} {taken : ℕ} → taken ≤ length words → taken ≤ length room → own ≡ take taken words → Copied words taken room (own ++ drop taken room)
+copied {words} {room} {own} {taken} low high e =
+    record {
+      same = λ j h. get_or-append own (drop taken room) 0 j (omega (arith, long)) ∙ ap (λ (ws : List ℕ). get_or ws j 0) e ∙ get_or-take taken words j 0 h;
+      long = length-append own (drop taken room) ∙ omega (arith, long, length-drop taken room, high);
+    }
   where
-    go : (j : ℕ) → j < i + 1 → Dec (j ≡ i) → get_or (set after i (get_or words i 0)) j 0 ≡ get_or words j 0
-    go j l (yes e) =
-        ap (λ (k : ℕ). get_or (set after i (get_or words i 0)) k 0) e ∙ get_or-set_same after i (get_or words i 0) 0 (omega (arith, before.long))
-        ∙ ap (λ (k : ℕ). get_or words k 0) (sym e)
-    go j l (no ne) = get_or-set_other after i j (get_or words i 0) 0 ne ∙ before.same j (omega (arith, l, ne))
-
-pub copied_all : {words room after : List ℕ} {i taken : ℕ} → Copied words i room after → taken ≤ i → Copied words taken room after
-copied_all copied high = record { same = λ j h. copied.same j (omega arith); long = copied.long }
+    long : length own ≡ taken
+    long = ap length e ∙ length-take-le taken words low
 
 pub copied_record : {words room after : List ℕ} (count : ℕ) → Copied words (3 * count) room after → (j : ℕ) → j < count → record_at after j ≡ record_at words j
 unfolding record_at

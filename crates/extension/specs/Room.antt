@@ -1,6 +1,6 @@
 -- Records in a room that grow line by line: what is asked of the room, and what one line changes.
 -- Rests on records' Slots, and on paper's Records and Refusals.
-use Rattle.std.specs.Prelude.{ℕ, ◌+◌, ◌*◌, ◌≤◌, ◌<◌, ◌≡◌, ◌⊎◌, Bool, true, false, List, ◌∷◌, length, get_or}
+use Rattle.std.specs.Prelude.{ℕ, ◌+◌, ◌*◌, ◌≤◌, ◌<◌, ◌≡◌, ◌⊎◌, Bool, true, false, List, ◌∷◌, Option, Some, length, get_or}
 use Rattle.lists.specs.Lists.{member}
 use Rattle.paper.specs.Area.{K}
 use Rattle.paper.specs.Intervals.{Interval, records, apart}
@@ -9,8 +9,6 @@ use Rattle.paper.specs.Refusals.{on_line}
 use Rattle.tables.specs.declared.Layout.{Layout}
 use Rattle.tables.specs.Recorded.{Unmarked, Marked}
 use Rattle.records.specs.declared.layout.LineSlots.{LineSlots}
-use Rattle.extension.specs.declared.Extended.{Extended}
-use Rattle.extension.specs.declared.Extended.TheVariants.{Records as Made}
 use Rattle.extension.specs.Extended.{records_left}
 
 -- ---- one record
@@ -71,9 +69,9 @@ pub record Changed (room : List ℕ) (made x : ℕ) (after : List ℕ) (count : 
   pub new : made < count → (record_at after made).line ≡ x
   pub free : made < count → (j : ℕ) → j < made → (record_at room j).line ≡ x → ⊥
 
-pub record LineExtended (b a room : List ℕ) (made p x : ℕ) (r : Extended) (after : List ℕ) : Type 0 where
+pub record LineExtended (b a room : List ℕ) (made p x : ℕ) (r : Option ℕ) (after : List ℕ) : Type 0 where
   pub says : records_left r after ≡ extend_line b a p x (records_in room made)
-  pub changed : (count : ℕ) → r ≡ Made count → Changed room made x after count
+  pub changed : (count : ℕ) → r ≡ Some count → Changed room made x after count
   pub long : length after ≡ length room
 
 -- ---- the lines of a node
@@ -87,9 +85,9 @@ pub record LinesReady (b a : List ℕ) (at : Layout) (slots : LineSlots) (lines 
   pub word : p < 65536
   pub fits : 3 * (at.sizes.nodes + at.sizes.links) ≤ length room
 
-pub record LinesExtended (b a lines room : List ℕ) (made p : ℕ) (r : Extended) (after : List ℕ) : Type 0 where
+pub record LinesExtended (b a lines room : List ℕ) (made p : ℕ) (r : Option ℕ) (after : List ℕ) : Type 0 where
   pub says : records_left r after ≡ extend_lines b a p lines (records (records_in room made))
-  pub whole : (count : ℕ) → r ≡ Made count → 3 * count ≤ length after
+  pub whole : (count : ℕ) → r ≡ Some count → 3 * count ≤ length after
   pub long : length after ≡ length room
 
 -- the first `taken` words are copied

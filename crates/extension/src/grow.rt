@@ -7,8 +7,7 @@ ghost use Rattle.paper.specs.Records.{next_position};
 ghost use Rattle.lookup.specs.Line.{Line, positions_on};
 ghost use Rattle.extension.specs.Room.{Grew, Growing, Put, record_of};
 
-use lookup::{Next, next_after};
-use words::field::wide;
+use lookup::next_after;
 use words::section::word_at;
 
 // Writes record i: its line, its lowest and its highest position.
@@ -28,10 +27,10 @@ fn comes_next(nodes: &[u16], positions: &[u16], pos: usize, next: usize) -> bool
     requires positions_value { member pos (positions_on nodes.now positions.now) ≡ true }
     ensures { result ≡ is_at next (next_position (positions_on nodes.now positions.now) pos) }
 {
-    let Next::Node(node) = next_after(nodes, positions, pos) else {
+    let Some(node) = next_after(nodes, positions, pos) else {
         return false;
     };
-    wide(positions[node]) == next
+    usize::from(positions[node]) == next
 }
 
 // Grows record i by a position of its line, if that lies inside it or next to it.
@@ -40,7 +39,7 @@ pub fn grow_record(nodes: &[u16], positions: &[u16], room: &mut [u16], i: usize,
     requires growing { Growing (positions_on nodes.now positions.now) room.old i pos }
     ensures { Grew (positions_on nodes.now positions.now) room.old i pos result room.new }
 {
-    let line = wide(room[3 * i]);
+    let line = usize::from(room[3 * i]);
     let lowest = word_at(room, 3 * i, 1);
     let highest = word_at(room, 3 * i, 2);
     if pos < lowest {

@@ -15,29 +15,18 @@ ghost use Rattle.extension.specs.Room.{Copied, LineExtended, LineReady, LinesExt
 use grow::{grow_record, put_record};
 use records::layout::LineSlots;
 use tables::{Layout, entries};
-use words::field::wide;
 use words::section::word_at;
-
-// What extending comes to: how many records there are then, or "not extendable".
-#[derive(Clone, Copy)]
-pub enum Extended {
-    Records(usize),
-    NotExtendable,
-}
 
 // Copies the first `taken` words into the room.
 fn copy_words(words: &[u16], taken: usize, room: &mut [u16])
     requires { (taken ≤ length words.now) × (taken ≤ length room.old) }
     ensures { Copied words.now taken room.old room.new }
 {
-    let mut i = 0;
-    while i < taken {
-        room[i] = words[i];
-        i += 1;
-    }
+    room[..taken].copy_from_slice(&words[..taken]);
 }
 
 // Extends the `made` records in the room on line x: its own grows, given the part of the area with the line's nodes, or a new one comes last.
+// Answers how many there are then, or none where they cannot be extended.
 fn extend_line(
     b: &[u8],
     at: Layout,
@@ -47,7 +36,7 @@ fn extend_line(
     made: usize,
     pos: usize,
     x: usize,
-) -> Extended
+) -> Option<usize>
     requires usable { Usable b.now area.now at }
     requires slots_fit { SlotsFit at slots }
     requires line_ready { LineReady b.now area.now at slots room.old made pos x }
@@ -55,16 +44,16 @@ fn extend_line(
 {
     if word_at(area, slots.marks, x) == 0 {
         put_record(room, made, x, pos, pos);
-        return Extended::Records(made + 1);
+        return Some(made + 1);
     }
     let slot = word_at(area, slots.numbers, x);
     let nodes = entries(area, at.starts, at.along, x);
     let first = at.positions;
     let end = first + at.sizes.nodes;
     if !grow_record(nodes, &area[first..end], room, slot, pos) {
-        return Extended::NotExtendable;
+        return None;
     }
-    Extended::Records(made)
+    Some(made)
 }
 
 // Extends the records in the room on each of a node's lines. They are distinct, so no slot has to be set for a new record.
@@ -77,34 +66,20 @@ fn extend_lines(
     room: &mut [u16],
     count: usize,
     pos: usize,
-) -> Extended
+) -> Option<usize>
     requires usable { Usable b.now area.now at }
     requires slots_fit { SlotsFit at slots }
     requires lines_ready { LinesReady b.now area.now at slots lines.now room.old count pos }
     ensures { LinesExtended b.now area.now lines.now room.old count pos result room.new }
 {
     let mut made = count;
-    let mut i = 0;
-    while i < lines.len() {
-        let Extended::Records(next) = extend_line(
-            b,
-            at,
-            area,
-            slots,
-            room,
-            made,
-            pos,
-            wide(lines[i]),
-        ) else {
-            return Extended::NotExtendable;
-        };
-        made = next;
-        i += 1;
+    for x in lines {
+        made = extend_line(b, at, area, slots, room, made, pos, usize::from(*x))?;
     }
-    Extended::Records(made)
+    Some(made)
 }
 
-// Extends `count` records by node v, in the room, so that "not extendable" leaves them unchanged.
+// Extends `count` records by node v, in the room, so that "not extendable" leaves them unchanged. Answers how many there are then, or none.
 pub fn extend(
     b: &[u8],
     at: Layout,
@@ -114,7 +89,7 @@ pub fn extend(
     count: usize,
     v: usize,
     room: &mut [u16],
-) -> Extended
+) -> Option<usize>
     requires usable { Usable b.now area.now at }
     requires slots_fit { SlotsFit at slots }
     requires recorded { Recorded b.now area.now words.now count }

@@ -9,7 +9,7 @@ use mathlib.Core.Bool.{Bool, true, false, not}
 use mathlib.Core.List.{List, [], ◌∷◌}
 use lib.Dec.{T, eqb}
 use lib.ListN.{length, get_or, take, set}
-use lib.Seq.{get_or-set_same, get_or-set_other, length-take-le, take_all}
+use lib.Seq.{get_or-set_same, get_or-set_other, length-take-le}
 use Rattle.lists.specs.Lists.{one, count, times}
 use Rattle.lists.specs.Bounds.{Below}
 use Rattle.lists.proofs.Count.{one_eq, one_ne, times-take, count-take-suc}
@@ -73,18 +73,6 @@ module _ (xs : List ℕ) (i : ℕ) (h : i < length xs) {x : ℕ} (is : x ≡ get
             down = λ t. absurd t;
             short = λ t. record { which = x; less = omega (arith, left x, one_more_here, times-take x (i + 1) xs) };
           }
-
--- ---- where either loop is left
-
-pub all-counted : (xs : List ℕ) {i : ℕ} (c : List ℕ) → length xs ≤ i → ((w : ℕ) → get_or c w 0 ≡ times w (take i xs)) → Counts xs c
-all-counted xs {i} c h counts w = counts w ∙ ap (times w) (take_all i xs h)
-
-pub all-taken : (ys : List ℕ) {i : ℕ} (c c₀ : List ℕ) → length ys ≤ i → ((w : ℕ) → get_or c w 0 + times w (take i ys) ≡ get_or c₀ w 0) → Taken ys c₀ true c
-all-taken ys {i} c c₀ h left =
-    record {
-      down = λ t w. ap (λ (l : List ℕ). get_or c w 0 + times w l) (sym (take_all i ys h)) ∙ left w;
-      short = λ t. absurd t;
-    }
 
 -- ---- the two loops together
 

@@ -1,14 +1,16 @@
 -- The test of a line and of a record, from what their parts answer.
 -- Rests on lookup's Along and on on_line's Along (the positions handed on).
-use Prim.Native.Nat.{ℕ, ◌+◌, ◌-◌, ◌*◌, ◌≤◌, ◌<◌}
+use Prim.Native.Nat.{ℕ, zero, suc, ◌+◌, ◌-◌, ◌*◌, ◌≤◌, ◌<◌}
+use native.Mathlib.Numerals.{add-one}
 use native.Mathlib.Omega.{arith}
-use mathlib.Core.Path.{◌≡◌, sym, ap, ap₂, ◌∙◌, subst, subst₂}
-use mathlib.Core.Bool.{Bool, true, false, ◌&&◌}
+use mathlib.Core.Path.{◌≡◌, refl, sym, ap, ap₂, ◌∙◌, subst, subst₂}
+use mathlib.Core.Bool.{Bool, true, ◌&&◌}
 use mathlib.Core.List.{List}
 use lib.ListN.{length, get_or, take, drop}
-use lib.Dec.{eqb}
+use lib.Dec.{eqb, ltb}
 use borrow.Author.Tests.{le-ltb, lt-ltb}
-use Rattle.lists.specs.Lists.{member}
+use Rattle.std.specs.List.{list_all, range_with_len}
+use Rattle.lists.specs.Lists.{from, all, member}
 use Rattle.lists.specs.Found.{at as stands_at}
 use Rattle.paper.specs.Lookup.{lookup}
 use Rattle.paper.specs.Records.{record_at}
@@ -21,6 +23,12 @@ use Rattle.on_line.proofs.Along.{handed}
 use Rattle.intervals.specs.declared.layout.MapRoom.{MapRoom}
 use Rattle.intervals.specs.Filling.{Tested, TestedRecord, count_at, fills_along, fills_record}
 
+-- ---- a test of the numbers in a row, as the kit's search asks it
+
+pub all-is : (f : ℕ → Bool) (n k : ℕ) → list_all f (range_with_len n k) ≡ all f (from n k)
+all-is f n zero = refl
+all-is f n (suc k) = ap (λ (t : Bool). f n && t) (ap (λ (m : ℕ). list_all f (range_with_len m k)) (add-one n) ∙ all-is f (suc n) k)
+
 -- ---- a line, where the lookup found the lowest
 
 module _ (nodes positions : List ℕ) (low high count : ℕ) {i : ℕ} (found : lookup (positions_on nodes positions) low ≡ stands_at i) where
@@ -28,10 +36,11 @@ module _ (nodes positions : List ℕ) (low high count : ℕ) {i : ℕ} (found : 
   along = positions_on nodes positions
 
   -- the line ends before the last one
-  pub ends-before : length nodes ≤ i + count - 1 → false ≡ fills_along along low high count
+  pub ends-before : length nodes ≤ i + count - 1 → ltb (i + count - 1) (length nodes) ≡ fills_along along low high count
   unfolding fills_along
   ends-before past =
-      sym
+      le-ltb (i + count - 1) (length nodes) past
+      ∙ sym
       (rw found
       (ap (λ (t : Bool). t && eqb (get_or along (i + count - 1) 0) high)
       (le-ltb (i + count - 1) (length along) (omega (arith, length-along nodes positions)))))

@@ -26,8 +26,7 @@ use Rattle.tables.proofs.Usable.{tables_still}
 use Rattle.take_in.specs.Listed.{Listed, list_in}
 use Rattle.take_in.proofs.Listed.{long-list, listing}
 use Rattle.intervals.specs.declared.layout.MapRoom.{MapRoom}
-use Rattle.intervals.specs.declared.Intervals.{Intervals}
-use Rattle.intervals.specs.declared.Intervals.TheVariants.{Records as Found, NotContiguous}
+use Rattle.std.specs.Prelude.{Option, Some, None}
 use Rattle.intervals.specs.Holds.{Became, Holds, MapFits, add_words}
 use Rattle.intervals.specs.Filling.{TestedAll, fills_record}
 use Rattle.intervals.specs.Answer.{Collected, intervals_said}
@@ -81,7 +80,7 @@ module _ {b a : List ℕ} {at : Layout} {count : ℕ} (usable : Usable b a at) (
       ∙ ap (λ (t : Bool). cond t (records (map (λ h. h.interval) held)) apart)
       (sym (e ∙ all_fill (cleared usable listed fits is) list (listing usable listed) fits holds scratched))
 
-  answer : (found : Records) → intervals b a list ≡ found → (r : Intervals) → intervals_said r ≡ said found
+  answer : (found : Records) → intervals b a list ≡ found → (r : Option ℕ) → intervals_said r ≡ said found
       → take (length (words_of found)) ws ≡ words_of found → Collected b a at count rs r ws m
   answer found e r says written =
       record {
@@ -91,17 +90,17 @@ module _ {b a : List ℕ} {at : Layout} {count : ℕ} (usable : Usable b a at) (
         kept = within_both (cleared-kept usable listed fits is) scratched;
       }
 
-  pub not_contiguous : {r : Bool} → r ≡ all (fills_record m at room ws) (upto made) → r ≡ false → Collected b a at count rs NotContiguous ws m
+  pub not_contiguous : {r : Bool} → r ≡ all (fills_record m at room ws) (upto made) → r ≡ false → Collected b a at count rs None ws m
   unfolding said words_of
   not_contiguous {r} e fails =
-      answer apart (tested e ∙ ap (λ (t : Bool). cond t (records (map (λ h. h.interval) held)) apart) fails) NotContiguous refl refl
+      answer apart (tested e ∙ ap (λ (t : Bool). cond t (records (map (λ h. h.interval) held)) apart) fails) None refl refl
 
-  pub contiguous : {r : Bool} → r ≡ all (fills_record m at room ws) (upto made) → r ≡ true → Collected b a at count rs (Found made) ws m
+  pub contiguous : {r : Bool} → r ≡ all (fills_record m at room ws) (upto made) → r ≡ true → Collected b a at count rs (Some made) ws m
   unfolding said words_of
   contiguous {r} e passes =
       answer (records (map (λ h. h.interval) held))
       (tested e ∙ ap (λ (t : Bool). cond t (records (map (λ h. h.interval) held)) apart) passes)
-      (Found made)
+      (Some made)
       (ap wrote (sym (length-map held (λ h. h.interval) ∙ holds.many)))
       (record-words (map (λ h. h.interval) held) ws (fresh 0 0).interval
       (omega (arith, length-map held (λ h. h.interval), sized-room holds.sized, became.long, fits.lines))

@@ -1,6 +1,6 @@
 // Translated from src/algorithms/convex/line_convex_checker.rs of portgraph (88172a3c8e, Apache-2.0, see NOTICE), and changed: the small
 // map's intervals are records in a lent buffer, and a line's record and count stand in scratch by line.
-ghost use Rattle.std.specs.Prelude.{◌≡◌, ◌+◌, ◌*◌, ◌≤◌, min, max, length};
+ghost use Rattle.std.specs.Prelude.{◌≡◌, ◌+◌, ◌*◌, ◌≤◌, length};
 ghost use Rattle.paper.specs.Records.{record_at};
 ghost use Rattle.accepted_theory.specs.collecting.SmallMap.{add};
 ghost use Rattle.take_in.specs.Listed.{list_in};
@@ -9,24 +9,6 @@ ghost use Rattle.intervals.specs.Holds.{Adding, AddingNode, AddingNodes, Became,
 use crate::layout::MapRoom;
 use tables::Layout;
 use words::section::word_at;
-
-fn smaller(x: u16, y: u16) -> u16
-    ensures { result ≡ min x y }
-{
-    if x < y {
-        return x;
-    }
-    y
-}
-
-fn larger(x: u16, y: u16) -> u16
-    ensures { result ≡ max x y }
-{
-    if x < y {
-        return y;
-    }
-    x
-}
 
 // Stores a record as the i-th: line, lowest and highest position.
 fn put_record(records: &mut [u16], i: usize, line: u16, low: u16, high: u16)
@@ -44,8 +26,8 @@ fn widen(records: &mut [u16], i: usize, pos: u16)
     ensures { records.new ≡ put_record records.old i (widened_to pos (record_at records.old i)) }
 {
     let line = records[3 * i];
-    let low = smaller(pos, records[3 * i + 1]);
-    let high = larger(pos, records[3 * i + 2]);
+    let low = pos.min(records[3 * i + 1]);
+    let high = pos.max(records[3 * i + 2]);
     put_record(records, i, line, low, high);
 }
 
@@ -89,13 +71,12 @@ fn add_node(
         area.old records.old made area.new records.new result }
 {
     let pos = area[at.positions + v];
+    let from = word_at(area, at.begins, v);
     let to = word_at(area, at.begins, v + 1);
-    let mut e = word_at(area, at.begins, v);
     let mut stand = made;
-    while e < to {
+    for e in from..to {
         let line = word_at(area, at.lines, e);
         stand = small_map_add(room, area, records, stand, line, pos);
-        e += 1;
     }
     stand
 }
@@ -112,12 +93,10 @@ pub fn add_nodes(
     ensures { Became (add_words area.old at (list_in area.old at count)) room
         area.old records.old 0 area.new records.new result }
 {
-    let mut i = 0;
     let mut stand = 0;
-    while i < count {
+    for i in 0..count {
         let v = word_at(area, at.scratch, i);
         stand = add_node(at, room, area, records, stand, v);
-        i += 1;
     }
     stand
 }

@@ -6,9 +6,8 @@ ghost use Rattle.lookup.specs.Line.{Line, positions_on};
 ghost use Rattle.intervals.specs.Filling.{TestedAll, TestedRecord, fills_along, fills_record};
 
 use crate::layout::MapRoom;
-use lookup::{Index, find_index, position_at};
+use lookup::{find_index, position_at};
 use tables::{Layout, entries};
-use words::field::wide;
 use words::section::word_at;
 
 // Whether `count` of a line's nodes fill the interval from `low` to `high`: the node count - 1 places after the lowest is the highest.
@@ -18,14 +17,11 @@ fn fills_line(nodes: &[u16], positions: &[u16], low: usize, high: usize, count: 
     requires le_count { (1 ≤ count) × (count < 65536) }
     ensures { result ≡ fills_along (positions_on nodes.now positions.now) low high count }
 {
-    let Index::At(first) = find_index(nodes, positions, low) else {
+    let Some(first) = find_index(nodes, positions, low) else {
         return false;
     };
     let last = first + count - 1;
-    if last >= nodes.len() {
-        return false;
-    }
-    position_at(nodes, positions, last) == high
+    last < nodes.len() && position_at(nodes, positions, last) == high
 }
 
 // Whether record i is filled: its line's nodes, the part of the area between two line starts, are given to the test.
@@ -33,7 +29,7 @@ fn fills_record(area: &[u16], at: Layout, room: MapRoom, records: &[u16], i: usi
     requires { TestedRecord area.now at room records.now i }
     ensures { result ≡ fills_record area.now at room records.now i }
 {
-    let x = wide(records[3 * i]);
+    let x = usize::from(records[3 * i]);
     let low = word_at(records, 3 * i, 1);
     let high = word_at(records, 3 * i, 2);
     let count = word_at(area, room.counts, x);
@@ -48,12 +44,5 @@ pub fn all_filled(area: &[u16], at: Layout, room: MapRoom, records: &[u16], made
     requires { TestedAll area.now at room records.now made }
     ensures { result ≡ all (fills_record area.now at room records.now) (upto made) }
 {
-    let mut i = 0;
-    while i < made {
-        if !fills_record(area, at, room, records, i) {
-            return false;
-        }
-        i += 1;
-    }
-    true
+    (0..made).all(|i| fills_record(area, at, room, records, i))
 }

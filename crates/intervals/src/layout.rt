@@ -22,8 +22,8 @@ pub fn lay_map(at: Layout) -> MapRoom
     let slots = at.scratch + at.sizes.nodes;
     let counts = slots + lines;
     MapRoom {
-        lines: lines,
-        slots: slots,
-        counts: counts,
+        lines,
+        slots,
+        counts,
     }
 }

@@ -16,21 +16,15 @@ use layout::lay_map;
 use tables::Layout;
 use words::section::fill;
 
-// What a list of nodes comes to: how many records were written, or that it is not contiguous.
-#[derive(Clone, Copy)]
-pub enum Intervals {
-    Records(usize),
-    NotContiguous,
-}
-
-// The intervals of the `count` nodes that stand in the scratch's first words, each once (the Rust's `get_intervals_from_nodes`).
+// The intervals of the `count` nodes that stand in the scratch's first words, each once (the Rust's `get_intervals_from_nodes`): how many records
+// were written, or none where the nodes are not contiguous.
 pub fn get_intervals(
     b: &[u8],
     at: Layout,
     area: &mut [u16],
     count: usize,
     records: &mut [u16],
-) -> Intervals
+) -> Option<usize>
     requires usable { Usable b.now area.old at }
     requires listed { Listed area.old at count }
     requires links_in_bounds { 3 * (at.sizes.nodes + at.sizes.links) ≤ length records.old }
@@ -40,7 +34,7 @@ pub fn get_intervals(
     fill(area, room.counts, room.lines, 0);
     let made = add_nodes(at, room, area, records, count);
     if !all_filled(area, at, room, records, made) {
-        return Intervals::NotContiguous;
+        return None;
     }
-    Intervals::Records(made)
+    Some(made)
 }

@@ -8,19 +8,16 @@ use mathlib.Core.List.{List, [], ◌∷◌}
 use lib.ListN.{length, take}
 use Rattle.paper.specs.Intervals.{Records}
 use Rattle.paper.specs.Records.{extend, records_in}
-use Rattle.paper.specs.Refusals.{Ruling, passed, Answer, answer, answered, refused, decide, rule9, rule12, rule13}
-use Rattle.paper.specs.Calls.{Written, wrote, said, words_of}
+use Rattle.paper.specs.Refusals.{Ruling, answer, answered, refused, decide, rule9, rule12, rule13}
+use Rattle.paper.specs.Calls.{said, words_of}
 use Rattle.accepted_theory.proofs.Records.{extend_same}
-use Rattle.answers.specs.Said.{extend_said}
-use Rattle.answers.specs.declared.ExtendAnswer.{ExtendAnswer}
-use Rattle.answers.specs.declared.ExtendAnswer.TheVariants as Asked
-use Rattle.refusals.specs.Said.{ruled, refused_by}
+use Rattle.std.specs.Prelude.{Option, Some, None, Ok, Err}
+use Rattle.answers.specs.Said.{written_said}
+use Rattle.refusals.specs.Said.{refused_by}
 use Rattle.refusals.specs.declared.Refusal.{Refusal}
 use Rattle.refusals.proofs.Rulings.{then_decides}
 use Rattle.extension.specs.Extended.{ExtendsTo, extended_said}
-use Rattle.extension.specs.declared.Extended.{Extended}
-use Rattle.records.specs.Tested.{Tested, checked_said}
-use Rattle.records.specs.declared.Checked.{Checked}
+use Rattle.records.specs.Tested.{Tested}
 use Rattle.records.specs.declared.layout.LineSlots.{LineSlots}
 use Rattle.tables.specs.declared.Layout.{Layout}
 use Rattle.tables.specs.Usable.{Usable}
@@ -28,7 +25,7 @@ use Rattle.tables.proofs.Within.{within_none}
 use Rattle.tables.proofs.Usable.{tables_still}
 use Rattle.line_checker.specs.InRoom.{InRoom}
 use Rattle.line_checker.proofs.Out.{refused_in}
-use Rattle.line_checker.proofs.RecordCalls.{known-node, unknown_node, records-passed_both}
+use Rattle.line_checker.proofs.RecordCalls.{known-node, unknown_node}
 
 abbrev Rules : List ℕ → List ℕ → List ℕ → ℕ → ℕ → List Ruling
 Rules b a words count v = rule9 b (v ∷ []) ∷ rule12 b a words count ∷ rule13 b a (records_in words count) ∷ []
@@ -41,36 +38,34 @@ module _ {b a : List ℕ} {at : Layout} (usable : Usable b a at) (v : ℕ) (word
       (ap (λ (u : Ruling). decide (u ∷ rule12 b a words count ∷ rule13 b a (records_in words count) ∷ [])) (unknown_node b usable.read.nodes v h))
       (extend b a (records_in words count) v) room
 
-module _ {b a : List ℕ} {at : Layout} (usable : Usable b a at) {slots : LineSlots} {words : List ℕ} {count : ℕ} {r : Checked} {m : List ℕ}
-    (tested : Tested b a at slots words count r m) {v : ℕ} (known : v < at.sizes.nodes) where
+-- what extending says, the call says
+made_said : (r : Option ℕ) → written_said (Ok r) ≡ answered (extended_said r)
+made_said (Some n) = refl
+made_said None = refl
+
+module _ {b a : List ℕ} {at : Layout} (usable : Usable b a at) {v : ℕ} (known : v < at.sizes.nodes) where
   -- 9 passes
-  then_records : decide (Rules b a words count v) ≡ decide (rule12 b a words count ∷ rule13 b a (records_in words count) ∷ [])
+  then_records : (words : List ℕ) (count : ℕ) → decide (Rules b a words count v) ≡ decide (rule12 b a words count ∷ rule13 b a (records_in words count) ∷ [])
   unfolding decide
-  then_records =
+  then_records words count =
       then_decides (rule9 b (v ∷ []) ∷ []) (rule12 b a words count ∷ rule13 b a (records_in words count) ∷ [])
       (ap (λ (u : Ruling). decide (u ∷ [])) (known-node b usable.read.nodes v known))
 
-  pub extend_refused : (x : Refusal) → ruled x ≡ checked_said r → (room : List ℕ)
+  pub extend_refused : {slots : LineSlots} {words : List ℕ} {count : ℕ} {x : Refusal} {m : List ℕ} → Tested b a at slots words count (Err x) m → (room : List ℕ)
       → InRoom said words_of at a m (refused_by x) (Rules b a words count v) (extend b a (records_in words count) v) room
-  extend_refused x e room = refused_in tested.kept (e ∙ tested.said ∙ sym then_records) (extend b a (records_in words count) v) room
+  extend_refused {words = words} {count} tested room = refused_in tested.kept (tested.said ∙ sym (then_records words count)) (extend b a (records_in words count) v) room
 
-  pub extend-made : checked_said r ≡ passed → {room : List ℕ} {found : Extended} {ws : List ℕ} → ExtendsTo b m words count v room found ws → {x : Answer Written}
-      → x ≡ answered (extended_said found) → InRoom said words_of at a m x (Rules b a words count v) (extend b a (records_in words count) v) ws
+  pub extend-made : {slots : LineSlots} {words : List ℕ} {count : ℕ} {m : List ℕ} → Tested b a at slots words count (Ok tt) m → {room : List ℕ} {found : Option ℕ} {ws : List ℕ} → ExtendsTo b m words count v room found ws
+      → InRoom said words_of at a m (written_said (Ok found)) (Rules b a words count v) (extend b a (records_in words count) v) ws
   unfolding answer
-  extend-made good {ws = ws} got e =
+  extend-made {words = words} {count} {m} tested {found = found} {ws} got =
       record {
         says =
-            e ∙ ap answered (got.says ∙ ap said same)
-            ∙ ap (λ (u : Ruling). answer u (said (extend b a (records_in words count) v))) (records-passed_both usable tested good ∙ sym then_records);
+            made_said found ∙ ap answered (got.says ∙ ap said same)
+            ∙ ap (λ (u : Ruling). answer u (said (extend b a (records_in words count) v))) (tested.said ∙ sym (then_records words count));
         kept = tested.kept;
         written = λ fine. subst (λ (f : Records). take (length (words_of f)) ws ≡ words_of f) same got.written;
       }
     where
       same : extend b m (records_in words count) v ≡ extend b a (records_in words count) v
       same = sym (extend_same (tables_still usable tested.kept) (records_in words count) v (omega (arith, usable.read.nodes)))
-
--- an answer that is not of records
-pub not_made : (r : ExtendAnswer) → ((n : ℕ) → r ≡ Asked.Records n → ⊥) → (k : ℕ) → extend_said r ≡ answered (wrote k) → ⊥
-not_made (Asked.Records n) h k e = h n refl
-not_made Asked.NotExtendable h k e = let z : ◌≡◌ {A = ℕ} 0 1 = cc in omega arith
-not_made (Asked.Refused x) h k e = let z : ◌≡◌ {A = ℕ} 0 1 = cc in omega arith

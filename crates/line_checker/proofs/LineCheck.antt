@@ -1,19 +1,19 @@
 -- The line check put together: the intervals of the nodes in the scratch, and the walk on the area after them, answer as on the area with
--- the list; and that answers as the area that the question began with, whether the list was taken in from words or from bytes.
--- Rests on Records, accepted_theory (intervals pass 12) and accepted_theory (two areas with the same tables).
+-- the list; and that answers as the area that the question began with, however the list came.
+-- Rests on Records, FromList, accepted_theory (intervals pass 12) and accepted_theory (two areas with the same tables).
 use Prim.Native.Nat.{ℕ, ◌*◌, ◌≤◌, ◌<◌}
 use native.Mathlib.Omega.{arith}
 use mathlib.Core.Path.{◌≡◌, sym, ap, ◌∙◌, subst}
-use mathlib.Core.List.{List, [], ◌∷◌}
+use mathlib.Core.List.{List}
 use lib.ListN.{length, take}
 use Rattle.lists.specs.Bounds.{Below}
 use Rattle.lists.proofs.Sections.{length_part, get_d_part}
 use Rattle.paper.specs.Map.{N}
-use Rattle.paper.specs.Intervals.{Reply, No, Records, intervals}
+use Rattle.paper.specs.Intervals.{No, Records, intervals}
 use Rattle.paper.specs.Walk.{walk, walk_on, line_check}
 use Rattle.paper.specs.Records.{records_in, words_of_records}
-use Rattle.paper.specs.Refusals.{passed, Answer, answered, answer, decide, rule12}
-use Rattle.paper.specs.Calls.{line_rules, words_of}
+use Rattle.paper.specs.Refusals.{passed, rule12}
+use Rattle.paper.specs.Calls.{words_of}
 use Rattle.order_theory.proofs.Refusals.{sound}
 use Rattle.accepted_theory.specs.Every.{Every}
 use Rattle.accepted_theory.specs.SameTables.{KnownNode, KnownRecord, KnownRecords}
@@ -23,27 +23,20 @@ use Rattle.accepted_theory.proofs.Walk.{walk_same, line_check-same}
 use Rattle.accepted_theory.proofs.recorded.Passing.{intervals_pass_12}
 use Rattle.accepted_theory.proofs.recorded.Reading.{length_words}
 use Rattle.tables.specs.declared.Layout.{Layout}
-use Rattle.tables.specs.Answered.{Answered}
-use Rattle.tables.specs.Usable.{Usable}
+use Rattle.tables.specs.Usable.{Usable, Scratched}
 use Rattle.tables.specs.Recorded.{Recorded}
-use Rattle.tables.proofs.Within.{within_none, within_both}
+use Rattle.tables.proofs.Within.{within_both}
 use Rattle.tables.proofs.Usable.{roomy, tables_still}
 use Rattle.take_in.specs.Taking.{Known}
 use Rattle.take_in.specs.Listed.{Listed, list_in}
-use Rattle.take_in.specs.Said.{TakenIn, taken_said}
-use Rattle.take_in.specs.declared.Taken.{Taken}
-use Rattle.take_in.specs.declared.Taken.TheVariants.{Nodes}
-use Rattle.take_in.proofs.Answers.{AllNodes}
-use Rattle.take_in.proofs.ListTaken.{nodes-below, all-taken}
-use Rattle.refusals.specs.Said.{ruled, refused_by, ruling}
-use Rattle.refusals.specs.declared.Refusal.{Refusal}
-use Rattle.intervals.specs.Answer.{Collected, intervals_said}
-use Rattle.intervals.specs.declared.Intervals.{Intervals}
-use Rattle.intervals.specs.declared.Intervals.TheVariants.{Records as Made, NotContiguous}
-use Rattle.line_checker.specs.InRoom.{list_taken, StandsTaken}
-use Rattle.line_checker.proofs.FromList.{list-kept, list-says, taken_refused, taken_answered}
-use Rattle.walk.specs.Walks.{Walks, walked_said}
-use Rattle.walk.specs.declared.turns.Walked.{Walked}
+use Rattle.take_in.specs.Said.{TakenIn}
+use Rattle.take_in.proofs.ListTaken.{nodes-below}
+use Rattle.intervals.specs.Answer.{Collected}
+use Rattle.answers.specs.Said.{verdict_said}
+use Rattle.answers.specs.declared.Verdict.{Verdict}
+use Rattle.walk.specs.Walks.{Walks}
+use Rattle.std.specs.Prelude.{Some, None, Ok}
+use Rattle.line_checker.proofs.FromList.{nodes, list-kept}
 use Rattle.line_checker.proofs.Records.{Wrote, wrote_some, wrote_none, read_first, begun_long, whole_room, good_still}
 
 -- ---- the nodes in the scratch
@@ -60,19 +53,15 @@ module _ {b a : List ℕ} {at : Layout} (usable : Usable b a at) {c : ℕ} (ther
   below : Below (N b) (list_in a at c)
   below = nodes-below usable known
 
-  module _ {r : Intervals} {rs words o : List ℕ} (got : Collected b a at c rs r words o) where
+  module _ {rs words o : List ℕ} where
     -- "no with count 0 when not contiguous"
-    pub gap_answered : r ≡ NotContiguous → Answered at a o (answered (No, 0)) [] (line_check b a (list_in a at c))
-    unfolding line_check walk_on answer decide
-    gap_answered e =
-        record {
-          says = ap answered (ap (walk_on b a) (sym (wrote_none (intervals b a (list_in a at c)) (ap intervals_said (sym e) ∙ got.says))));
-          kept = got.kept;
-        }
+    pub gap_said : Collected b a at c rs None words o → (No, 0) ≡ line_check b a (list_in a at c)
+    unfolding line_check walk_on
+    gap_said got = ap (walk_on b a) (sym (wrote_none (intervals b a (list_in a at c)) got.says))
 
-    module _ {made : ℕ} (e : r ≡ Made made) where
+    module _ {made : ℕ} (got : Collected b a at c rs (Some made) words o) where
       held : Wrote (intervals b a (list_in a at c)) made
-      held = wrote_some (intervals b a (list_in a at c)) made (ap intervals_said (sym e) ∙ got.says)
+      held = wrote_some (intervals b a (list_in a at c)) made got.says
 
       known-records : Every (KnownRecord b a) held.list
       known-records =
@@ -99,56 +88,30 @@ module _ {b a : List ℕ} {at : Layout} (usable : Usable b a at) {c : ℕ} (ther
       pub recorded : Recorded b o words made
       recorded = good_still (tables_still usable got.kept) words made fits pass_12
 
-      pub walk_answered : {q : List ℕ} {w : Walked} → Walks b o words made at w q → {y : Answer (Reply × ℕ)} → y ≡ answered (walked_said w)
-          → Answered at a q y [] (line_check b a (list_in a at c))
-      unfolding line_check walk_on answer decide
-      walk_answered walked f =
-          record {
-            says =
-                f
-                ∙ ap answered (
-                walked.said ∙ ap (walk b o) reads
-                ∙ sym (walk_same (tables_still usable got.kept) (sound b usable.links) held.list known-records)
-                ∙ ap (walk_on b a) (sym held.is)
-                );
-            kept = within_both got.kept walked.kept;
-          }
+      module _ {q : List ℕ} {w : Verdict} (walked : Walks b o words made at w q) where
+        pub walk_said : verdict_said w ≡ line_check b a (list_in a at c)
+        unfolding line_check walk_on
+        walk_said =
+            walked.said ∙ ap (walk b o) reads
+            ∙ sym (walk_same (tables_still usable got.kept) (sound b usable.links) held.list known-records)
+            ∙ ap (walk_on b a) (sym held.is)
+
+        pub walk_kept : Scratched at a q
+        walk_kept = within_both got.kept walked.kept
 
 -- ---- a list that was taken in
 
-module _ {b a : List ℕ} {at : Layout} (usable : Usable b a at) {list : List ℕ} {taken : Taken} {m : List ℕ}
-    (took : TakenIn at.sizes.nodes list a at.scratch taken m) (count : ℕ) (is : taken ≡ Nodes count) where
-  nodes : AllNodes at.sizes.nodes list at.scratch count m
-  nodes = all-taken took is
-
+module _ {b a : List ℕ} {at : Layout} (usable : Usable b a at) {list : List ℕ} {count : ℕ} {m : List ℕ}
+    (took : TakenIn at.sizes.nodes list a at.scratch (Ok count) m) where
   every : Every (KnownNode b) list
-  every = every-below (N b) list (nodes-below usable nodes.known)
+  every = every-below (N b) list (nodes-below usable (nodes usable took).known)
 
   -- the intervals on the area with the list, and the check, are those on the area before
   pub intervals-before : intervals b m (list_in m at count) ≡ intervals b a list
-  intervals-before = ap (intervals b m) nodes.stands ∙ sym (intervals-same (tables_still usable (list-kept usable took)) list every)
+  intervals-before =
+      ap (intervals b m) (nodes usable took).stands ∙ sym (intervals-same (tables_still usable (list-kept usable took)) list every)
 
   pub check_before : line_check b m (list_in m at count) ≡ line_check b a list
   check_before =
-      ap (line_check b m) nodes.stands ∙ sym (line_check-same (tables_still usable (list-kept usable took)) (sound b usable.links) list every)
-
--- the check of the list in the scratch, if one stands there
-module _ {b a : List ℕ} {at : Layout} (usable : Usable b a at) {taken : Taken} (stands : StandsTaken a at taken) where
-  pub not_checked : (x : Refusal) → ruled x ≡ ruling (taken_said taken)
-      → Answered at a a (refused_by x) (ruling (taken_said taken) ∷ []) (line_check b a (list_taken a at taken))
-  not_checked x e = record { says = taken_refused taken x e (line_check b a (list_taken a at taken)); kept = within_none }
-
-  pub taken_checked : {count : ℕ} → taken ≡ Nodes count → {m : List ℕ} {x : Answer (Reply × ℕ)} → Answered at a m x [] (line_check b a (list_in a at count))
-      → Answered at a m x (ruling (taken_said taken) ∷ []) (line_check b a (list_taken a at taken))
-  unfolding answer decide
-  taken_checked e got = record { says = got.says ∙ taken_answered at a (line_check b a) e; kept = got.kept }
-
--- .. and of the caller's list
-pub list_checked : {b a : List ℕ} {at : Layout} → Usable b a at → {list : List ℕ} {taken : Taken} {m : List ℕ}
-    → TakenIn at.sizes.nodes list a at.scratch taken m → {o : List ℕ} {x : Answer (Reply × ℕ)}
-    → Answered at m o x (ruling (taken_said taken) ∷ []) (line_check b m (list_taken m at taken)) → Answered at a o x (line_rules b list) (line_check b a list)
-list_checked {b} {a} usable {list} {m = m} took got =
-    record {
-      says = list-says usable took (line_check b m) (line_check b a list) (check_before usable took) got.says;
-      kept = within_both (list-kept usable took) got.kept;
-    }
+      ap (line_check b m) (nodes usable took).stands
+      ∙ sym (line_check-same (tables_still usable (list-kept usable took)) (sound b usable.links) list every)

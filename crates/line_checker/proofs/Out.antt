@@ -1,12 +1,14 @@
 -- A result that stands in a room goes out to a lent buffer, of words or of bytes: 11 where it does not fit, and else its words alone.
 -- Rests on take_in's Into and words's Buffers.
-use Prim.Native.Nat.{ℕ, ◌-◌, ◌*◌, ◌/◌, ◌≤◌, ◌<◌}
+use Prim.Native.Nat.{ℕ, ◌*◌, ◌/◌, ◌≤◌, ◌<◌}
 use native.Mathlib.Omega.{arith}
 use mathlib.Core.Path.{◌≡◌, refl, sym, ap, ◌∙◌, subst}
 use mathlib.Core.List.{List, [], ◌∷◌, ◌++◌}
 use lib.ListN.{length, take, length-take}
 use lib.Seq.{sets}
-use Rattle.paper.specs.Calls.{Written, wrote, said, words_of, needed}
+use Rattle.std.specs.Prelude.{Option, Some, None, Ok}
+use Rattle.answers.specs.Said.{written_said}
+use Rattle.paper.specs.Calls.{Written, wrote, found_apart, said, words_of, needed}
 use Rattle.paper.specs.Intervals.{Records, records, apart}
 use Rattle.paper.specs.Refusals.{Ruling, passed, refusal, Answer, answer, answered, refused, decide, on_refusal, rule11, whole_records}
 use Rattle.paper.specs.Words.{words_from, put_words}
@@ -39,6 +41,10 @@ module _ {A : Type 0} (us : List Ruling) (e : passed ≡ decide us) (rules : Lis
 module _ {A : Type 0} where
   no_answer : {i v : ℕ} {x : A} → answered x ≡ refused i v → ⊥
   no_answer e = let z : ◌≡◌ {A = ℕ} 0 1 = cc in omega arith
+
+  -- .. and a refusal is none
+  pub never_answered : {i v : ℕ} (x : A) → refused i v ≡ answered x → ⊥
+  never_answered x e = no_answer (sym e)
 
   pub answer-told : (u : Ruling) {x y : A} → answered x ≡ answer u y → (passed ≡ u) × (x ≡ y)
   unfolding answer
@@ -96,6 +102,18 @@ module _ {A R : Type 0} {told : R → A} {words : R → List ℕ} {at : Layout} 
         )
 
 -- ---- records
+
+-- what tells how many records there are, and what tells of none
+pub tells_many : {r : Option ℕ} {made : ℕ} → r ≡ Some made → written_said (Ok r) ≡ answered (wrote made)
+tells_many e = ap (λ (r : Option ℕ). written_said (Ok r)) e
+
+pub tells_none : {at : Layout} {a m : List ℕ} {rules : List Ruling} {found : Records} {room : List ℕ} {r : Option ℕ} → r ≡ None
+    → InRoom said words_of at a m (written_said (Ok r)) rules found room → InRoom said words_of at a m (answered found_apart) rules found room
+tells_none e got = record { says = ap (λ (r : Option ℕ). written_said (Ok r)) (sym e) ∙ got.says; kept = got.kept; written = got.written }
+
+-- .. not of any
+pub never_wrote : (k : ℕ) → answered found_apart ≡ answered (wrote k) → ⊥
+never_wrote k e = let z : ◌≡◌ {A = ℕ} 0 1 = cc in omega arith
 
 module _ {at : Layout} {a m : List ℕ} {x : Answer Written} {rules : List Ruling} {found : Records} {room : List ℕ}
     (got : InRoom said words_of at a m x rules found room) (buffer : List ℕ) where
@@ -193,15 +211,8 @@ module _ {A : Type 0} {at : Layout} {a m : List ℕ} {x : Answer A} {rules : Lis
       }
 
 -- the first k words of a room fit into so many bytes
-pub cut_fits : (bytes room : List ℕ) (k : ℕ) → 2 * k ≤ length bytes → 2 * length (take (k - 0) room) ≤ length bytes
-cut_fits bytes room k h = omega (arith, length-take (k - 0) room)
-
-module _ (room buffer : List ℕ) (k : ℕ) where
-  pub cut : sets buffer 0 (take (k - 0) room) ≡ sets buffer 0 (take k room)
-  cut = ap (λ (i : ℕ). sets buffer 0 (take i room)) plain
-    where
-      plain : k - 0 ≡ k
-      plain = omega arith
+pub cut_fits : (bytes room : List ℕ) (k : ℕ) → 2 * k ≤ length bytes → 2 * length (take k room) ≤ length bytes
+cut_fits bytes room k h = omega (arith, length-take k room)
 
 module _ {at : Layout} {a m : List ℕ} {x : Answer Written} {rules : List Ruling} {found : Records} {room : List ℕ}
     (got : InRoom said words_of at a m x rules found room) (bytes : List ℕ) (small : Below 256 bytes) {made : ℕ} (e : x ≡ answered (wrote made)) where
@@ -209,10 +220,10 @@ module _ {at : Layout} {a m : List ℕ} {x : Answer Written} {rules : List Rulin
       → AnsweredBytes at a m (refused 11 made) (rules ++ (rule11 (whole_records (words_from bytes)) (needed found) ∷ [])) (said found) bytes bytes (words_of found)
   records-long-bytes h = bytes-kept small (records-long got (words_from bytes) e (omega (arith, length-words_from bytes)))
 
-  pub records-put : made ≤ length bytes / 2 / 3 → {after : List ℕ} → after ≡ put_words bytes (take (3 * made - 0) room)
+  pub records-put : made ≤ length bytes / 2 / 3 → {after : List ℕ} → after ≡ put_words bytes (take (3 * made) room)
       → AnsweredBytes at a m (answered (wrote made)) (rules ++ (rule11 (whole_records (words_from bytes)) (needed found) ∷ [])) (said found) bytes after (words_of found)
   records-put h f =
-      bytes-put small (take (3 * made - 0) room) (records-fit got (words_from bytes) e (omega (arith, length-words_from bytes)) (cut room (words_from bytes) (3 * made)))
+      bytes-put small (take (3 * made) room) (records-fit got (words_from bytes) e (omega (arith, length-words_from bytes)) refl)
       (cut_fits bytes room (3 * made) (omega arith)) f
 
 module _ {at : Layout} {a m : List ℕ} {x : Answer ℕ} {rules : List Ruling} {found room : List ℕ} (got : InRoom length itself at a m x rules found room)
@@ -221,8 +232,8 @@ module _ {at : Layout} {a m : List ℕ} {x : Answer ℕ} {rules : List Ruling} {
       → AnsweredBytes at a m (refused 11 made) (rules ++ (rule11 (length (words_from bytes)) (length found) ∷ [])) (length found) bytes bytes found
   nodes-long-bytes h = bytes-kept small (nodes-long got (words_from bytes) e (omega (arith, length-words_from bytes)))
 
-  pub nodes-put : made ≤ length bytes / 2 → {after : List ℕ} → after ≡ put_words bytes (take (made - 0) room)
+  pub nodes-put : made ≤ length bytes / 2 → {after : List ℕ} → after ≡ put_words bytes (take made room)
       → AnsweredBytes at a m (answered made) (rules ++ (rule11 (length (words_from bytes)) (length found) ∷ [])) (length found) bytes after found
   nodes-put h f =
-      bytes-put small (take (made - 0) room) (nodes-fit got (words_from bytes) e (omega (arith, length-words_from bytes)) (cut room (words_from bytes) made))
+      bytes-put small (take made room) (nodes-fit got (words_from bytes) e (omega (arith, length-words_from bytes)) refl)
       (cut_fits bytes room made (omega arith)) f

@@ -10,41 +10,25 @@ use mathlib.Core.List.{List, [], ◌∷◌}
 use borrow.Author.Tests.{le-leb, lt-leb, ne_eqb}
 use Rattle.lists.specs.Found.{placed}
 use Rattle.paper.specs.Map.{N}
-use Rattle.paper.specs.Intervals.{Reply}
 use Rattle.paper.specs.Walk.{walk}
 use Rattle.paper.specs.Records.{records_in}
-use Rattle.paper.specs.Refusals.{
-  Ruling,
-  passed,
-  refusal,
-  refuse,
-  Answer,
-  answered,
-  answer,
-  refused,
-  decide,
-  earliest,
-  rule8,
-  rule9,
-  rule12,
-  rule13,
-}
+use Rattle.paper.specs.Refusals.{Ruling, passed, refusal, refuse, answered, answer, refused, decide, earliest, rule8, rule9, rule12, rule13}
 use Rattle.order_theory.proofs.Refusals.{sound}
 use Rattle.accepted_theory.proofs.Refusals.{records-passed}
 use Rattle.accepted_theory.proofs.Walk.{walk_same}
-use Rattle.refusals.specs.Said.{ruled, refused_by}
+use Rattle.std.specs.Prelude.{Ok, Err}
+use Rattle.refusals.specs.Said.{refused_by}
 use Rattle.refusals.specs.declared.Refusal.{Refusal}
-use Rattle.refusals.proofs.Rulings.{no_refusal, head_passed}
-use Rattle.records.specs.Tested.{Tested, checked_said}
-use Rattle.records.specs.declared.Checked.{Checked}
-use Rattle.records.specs.declared.Checked.TheVariants.{Refused}
+use Rattle.refusals.proofs.Rulings.{head_passed}
+use Rattle.records.specs.Tested.{Tested}
 use Rattle.tables.specs.declared.Layout.{Layout}
 use Rattle.tables.specs.Usable.{Usable}
 use Rattle.tables.specs.Answered.{Answered}
 use Rattle.tables.proofs.Within.{within_none, within_both}
 use Rattle.tables.proofs.Usable.{tables_still}
-use Rattle.walk.specs.Walks.{Walks, walked_said}
-use Rattle.walk.specs.declared.turns.Walked.{Walked}
+use Rattle.answers.specs.Said.{verdict_said}
+use Rattle.answers.specs.declared.Verdict.{Verdict}
+use Rattle.walk.specs.Walks.{Walks}
 use Rattle.records.specs.declared.layout.LineSlots.{LineSlots}
 use Rattle.line_checker.proofs.Out.{said-after}
 
@@ -67,22 +51,6 @@ module _ (b : List ℕ) {n : ℕ} (nodes : N b ≡ n) (v : ℕ) where
   unfolding rule9 refuse earliest
   known-node h = ap (λ (t : Bool). refuse 9 (placed t 0)) (sym (lt-leb (N b) v (omega (arith, nodes))))
 
-module _ {b a : List ℕ} {at : Layout} (usable : Usable b a at) {slots : LineSlots} {words : List ℕ} {count : ℕ} {r : Checked} {m : List ℕ}
-    (tested : Tested b a at slots words count r m) (good : checked_said r ≡ passed) where
-  pub records-passed_both : passed ≡ decide (rule12 b a words count ∷ rule13 b a (records_in words count) ∷ [])
-  records-passed_both = sym good ∙ tested.said
-
-  pub walk_still : walk b m (records_in words count) ≡ walk b a (records_in words count)
-  walk_still =
-      sym (
-      walk_same (tables_still usable tested.kept) (sound b usable.links) (records_in words count)
-      (records-passed b a words count (sym (head_passed (rule12 b a words count) (rule13 b a (records_in words count) ∷ []) records-passed_both).0))
-      )
-
--- records that are not good are refused
-pub is_bad : {r : Checked} {x : Refusal} → r ≡ Refused x → checked_said r ≢ passed
-is_bad e f = no_refusal (sym f ∙ ap checked_said e)
-
 -- ---- the check by records
 
 module _ {A : Type 0} (at : Layout) {a : List ℕ} (rest : List Ruling) (x : A) where
@@ -94,35 +62,39 @@ module _ {A : Type 0} (at : Layout) {a : List ℕ} (rest : List Ruling) (x : A) 
         kept = within_none;
       }
 
-module _ {b a : List ℕ} {at : Layout} (usable : Usable b a at) {slots : LineSlots} {words : List ℕ} {count : ℕ} {r : Checked} {m : List ℕ}
-    (tested : Tested b a at slots words count r m) (some : count ≢ 0) where
-  rules : List Ruling
-  rules = rule12 b a words count ∷ rule13 b a (records_in words count) ∷ []
+given : (count : ℕ) → count ≢ 0 → passed ≡ decide (rule8 count ∷ [])
+unfolding decide
+given count some = ap (λ (u : Ruling). decide (u ∷ [])) (some_given count some)
 
-  given : passed ≡ decide (rule8 count ∷ [])
-  unfolding decide
-  given = ap (λ (u : Ruling). decide (u ∷ [])) (some_given count some)
-
-  pub by_records_refused : (u : Refusal) → ruled u ≡ checked_said r
+module _ {b a : List ℕ} {at : Layout} (usable : Usable b a at) {slots : LineSlots} {words : List ℕ} {count : ℕ} {m : List ℕ} (some : count ≢ 0) where
+  pub by_records_refused : {u : Refusal} → Tested b a at slots words count (Err u) m
       → Answered at a m (refused_by u) (rule8 count ∷ rule12 b a words count ∷ rule13 b a (records_in words count) ∷ []) (walk b a (records_in words count))
-  unfolding answer rules
-  by_records_refused u e =
+  unfolding answer
+  by_records_refused tested =
       record {
         says =
-            said-after (rule8 count ∷ []) given rules (walk b a (records_in words count))
-            (ap (λ (u : Ruling). answer u (walk b a (records_in words count))) (e ∙ tested.said));
+            said-after (rule8 count ∷ []) (given count some) (rule12 b a words count ∷ rule13 b a (records_in words count) ∷ []) (walk b a (records_in words count))
+            (ap (λ (u : Ruling). answer u (walk b a (records_in words count))) tested.said);
         kept = tested.kept;
       }
 
-  pub by_records-walked : checked_said r ≡ passed → {o : List ℕ} {w : Walked} → Walks b m words count at w o → {y : Answer (Reply × ℕ)}
-      → y ≡ answered (walked_said w)
-      → Answered at a o y (rule8 count ∷ rule12 b a words count ∷ rule13 b a (records_in words count) ∷ []) (walk b a (records_in words count))
-  unfolding answer rules
-  by_records-walked good walked e =
-      record {
-        says =
-            said-after (rule8 count ∷ []) given rules (walk b a (records_in words count))
-            (e ∙ ap answered (walked.said ∙ walk_still usable tested good)
-            ∙ ap (λ (u : Ruling). answer u (walk b a (records_in words count))) (records-passed_both usable tested good));
-        kept = within_both tested.kept walked.kept;
-      }
+  module _ (tested : Tested b a at slots words count (Ok tt) m) where
+    -- the area after the test walks as the one before
+    walk_still : walk b m (records_in words count) ≡ walk b a (records_in words count)
+    walk_still =
+        sym (
+        walk_same (tables_still usable tested.kept) (sound b usable.links) (records_in words count)
+        (records-passed b a words count (sym (head_passed (rule12 b a words count) (rule13 b a (records_in words count) ∷ []) tested.said).0))
+        )
+
+    pub by_records-walked : {o : List ℕ} {w : Verdict} → Walks b m words count at w o
+        → Answered at a o (answered (verdict_said w)) (rule8 count ∷ rule12 b a words count ∷ rule13 b a (records_in words count) ∷ [])
+        (walk b a (records_in words count))
+    unfolding answer
+    by_records-walked walked =
+        record {
+          says =
+              said-after (rule8 count ∷ []) (given count some) (rule12 b a words count ∷ rule13 b a (records_in words count) ∷ []) (walk b a (records_in words count))
+              (ap answered (walked.said ∙ walk_still) ∙ ap (λ (u : Ruling). answer u (walk b a (records_in words count))) tested.said);
+          kept = within_both tested.kept walked.kept;
+        }

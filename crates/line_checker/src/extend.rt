@@ -4,16 +4,15 @@ ghost use Rattle.std.specs.Prelude.{[], ◌∷◌, ◌+◌, ◌*◌, ◌≤◌, 
 ghost use Rattle.paper.specs.Calls.{needed, said, words_of};
 ghost use Rattle.paper.specs.Records.{extend as extended, records_in};
 ghost use Rattle.paper.specs.Refusals.{rule9, rule11, rule12, rule13, whole_records};
-ghost use Rattle.answers.specs.Said.{extend_said};
+ghost use Rattle.answers.specs.Said.{written_said};
 ghost use Rattle.tables.specs.Answered.{AnsweredInto};
 ghost use Rattle.tables.specs.Usable.{Usable};
 ghost use Rattle.line_checker.specs.InRoom.{InRoom};
 
 use super::room::{copy_out, record_room};
-use answers::ExtendAnswer;
-use extension::{Extended, extend};
+use extension::extend;
+use records::check_records;
 use records::layout::lay_slots;
-use records::{Checked, check_records, record_refusal};
 use refusals::Refusal;
 use tables::Layout;
 
@@ -26,27 +25,20 @@ pub fn find_extended(
     count: usize,
     node: usize,
     room: &mut [u16],
-) -> ExtendAnswer
+) -> Result<Option<usize>, Refusal>
     requires usable { Usable b.now area.old at }
     requires links_in_bounds { 3 * (at.sizes.nodes + at.sizes.links) ≤ length room.old }
-    ensures { InRoom said words_of at area.old area.new (extend_said result)
+    ensures { InRoom said words_of at area.old area.new (written_said result)
         (rule9 b.now (node ∷ []) ∷ rule12 b.now area.old records.now count
         ∷ rule13 b.now area.old (records_in records.now count) ∷ [])
         (extended b.now area.old (records_in records.now count) node) room.new }
 {
     if at.sizes.nodes <= node {
-        return ExtendAnswer::Refused(Refusal::Unknown(0));
+        return Err(Refusal::Unknown(0));
     }
     let slots = lay_slots(at);
-    let checked = check_records(b, at, area, slots, records, count);
-    let Checked::Good = checked else {
-        return ExtendAnswer::Refused(record_refusal(checked));
-    };
-    let found = extend(b, at, area, slots, records, count, node, room);
-    let Extended::Records(made) = found else {
-        return ExtendAnswer::NotExtendable;
-    };
-    ExtendAnswer::Records(made)
+    check_records(b, at, area, slots, records, count)?;
+    Ok(extend(b, at, area, slots, records, count, node, room))
 }
 
 // Extends records by a node, in their own buffer: refusals 9, 12, 13, then 11.
@@ -57,9 +49,9 @@ pub fn extend_records(
     records: &mut [u16],
     count: usize,
     node: usize,
-) -> ExtendAnswer
+) -> Result<Option<usize>, Refusal>
     requires { Usable b.now area.old at }
-    ensures { AnsweredInto at area.old area.new (extend_said result)
+    ensures { AnsweredInto at area.old area.new (written_said result)
         (rule9 b.now (node ∷ []) ∷ rule12 b.now area.old records.old count
         ∷ rule13 b.now area.old (records_in records.old count)
         ∷ rule11 (whole_records records.old)
@@ -69,13 +61,12 @@ pub fn extend_records(
         (words_of (extended b.now area.old (records_in records.old count) node)) }
 {
     let mut room = record_room();
-    let found = find_extended(b, at, area, records, count, node, &mut room);
-    let ExtendAnswer::Records(made) = found else {
-        return found;
+    let Some(made) = find_extended(b, at, area, records, count, node, &mut room)? else {
+        return Ok(None);
     };
     if records.len() / 3 < made {
-        return ExtendAnswer::Refused(Refusal::TooLong(made));
+        return Err(Refusal::TooLong(made));
     }
     copy_out(&room, records, 3 * made);
-    found
+    Ok(Some(made))
 }

@@ -3,87 +3,51 @@
 ghost use Rattle.std.specs.Prelude.{◌≡◌, [], ◌∷◌};
 ghost use Rattle.paper.specs.Calls.{line_rules};
 ghost use Rattle.paper.specs.Records.{records_in};
-ghost use Rattle.paper.specs.Refusals.{answered, rule8, rule12, rule13};
+ghost use Rattle.paper.specs.Refusals.{rule8, rule12, rule13};
 ghost use Rattle.paper.specs.Walk.{line_check, walk as walk_of};
-ghost use Rattle.paper.specs.Words.{words_from};
-ghost use Rattle.tables.specs.Usable.{Usable};
-ghost use Rattle.refusals.specs.Said.{ruling};
-ghost use Rattle.take_in.specs.Listed.{Listed, list_in};
-ghost use Rattle.take_in.specs.Said.{taken_said};
-ghost use Rattle.walk.specs.Walks.{walked_said};
 ghost use Rattle.tables.specs.Answered.{Answered};
-ghost use Rattle.answers.specs.Said.{line_said};
-ghost use Rattle.line_checker.specs.InRoom.{StandsTaken, list_taken};
+ghost use Rattle.tables.specs.Usable.{Scratched, Usable};
+ghost use Rattle.take_in.specs.Listed.{Listed, list_in};
+ghost use Rattle.answers.specs.Said.{line_said, verdict_said};
 
 use super::room::record_room;
-use answers::LineAnswer;
-use intervals::{Intervals, get_intervals};
+use answers::Verdict;
+use intervals::get_intervals;
+use records::check_records;
 use records::layout::lay_slots;
-use records::{Checked, check_records, record_refusal};
 use refusals::Refusal;
 use tables::Layout;
-use take_in::{Taken, list_refusal, take_in, take_in_bytes};
-use walk::turns::Walked;
+use take_in::take_in;
 use walk::walk;
-
-// The walk's answer as the check's.
-fn walk_answer(walked: Walked) -> LineAnswer
-    ensures { line_said result ≡ answered (walked_said walked) }
-{
-    match walked {
-        Walked::Yes(count) => LineAnswer::Yes(count),
-        Walked::No(count) => LineAnswer::No(count),
-    }
-}
+use words::entries::Entries;
 
 // The line check of the `count` nodes that stand in the scratch: no with count 0 when they are not contiguous; else the queue walk.
-fn check_listed(b: &[u8], at: Layout, area: &mut [u16], count: usize) -> LineAnswer
+fn check_listed(b: &[u8], at: Layout, area: &mut [u16], count: usize) -> Verdict
     requires usable { Usable b.now area.old at }
     requires listed { Listed area.old at count }
-    ensures { Answered at area.old area.new (line_said result) []
-        (line_check b.now area.old (list_in area.old at count)) }
+    ensures says { verdict_said result ≡ line_check b.now area.old (list_in area.old at count) }
+    ensures kept { Scratched at area.old area.new }
 {
     let mut room = record_room();
-    let found = get_intervals(b, at, area, count, &mut room);
-    let Intervals::Records(made) = found else {
-        return LineAnswer::No(0);
+    let Some(made) = get_intervals(b, at, area, count, &mut room) else {
+        return Verdict::No(0);
     };
-    let walked = walk(b, at, area, &room, made);
-    walk_answer(walked)
-}
-
-// The line check of the list that was taken in: from here on nothing knows whether it came in words or in bytes.
-fn check_taken(b: &[u8], at: Layout, area: &mut [u16], taken: Taken) -> LineAnswer
-    requires usable { Usable b.now area.old at }
-    requires stands_taken { StandsTaken area.old at taken }
-    ensures { Answered at area.old area.new (line_said result) (ruling (taken_said taken) ∷ [])
-        (line_check b.now area.old (list_taken area.old at taken)) }
-{
-    let Taken::Nodes(count) = taken else {
-        return LineAnswer::Refused(list_refusal(taken));
-    };
-    check_listed(b, at, area, count)
+    walk(b, at, area, &room, made)
 }
 
 // The line check of a list: refusals 8, 9, 10, then the check of its nodes.
-pub fn check_list(b: &[u8], at: Layout, area: &mut [u16], list: &[u16]) -> LineAnswer
+pub fn check_list<E: Entries + Copy>(
+    b: &[u8],
+    at: Layout,
+    area: &mut [u16],
+    list: E,
+) -> Result<Verdict, Refusal>
     requires { Usable b.now area.old at }
     ensures { Answered at area.old area.new (line_said result)
-        (line_rules b.now list.now) (line_check b.now area.old list.now) }
+        (line_rules b.now (E.entries list)) (line_check b.now area.old (E.entries list)) }
 {
-    let taken = take_in(list, at.sizes.nodes, area, at.scratch);
-    check_taken(b, at, area, taken)
-}
-
-// The same of a list in bytes.
-pub fn check_list_bytes(b: &[u8], at: Layout, area: &mut [u16], list: &[u8]) -> LineAnswer
-    requires { Usable b.now area.old at }
-    ensures { Answered at area.old area.new (line_said result)
-        (line_rules b.now (words_from list.now))
-        (line_check b.now area.old (words_from list.now)) }
-{
-    let taken = take_in_bytes(list, at.sizes.nodes, area, at.scratch);
-    check_taken(b, at, area, taken)
+    let count = take_in(list, at.sizes.nodes, area, at.scratch)?;
+    Ok(check_listed(b, at, area, count))
 }
 
 // The check by records: refusals 8, 12, 13, then the same walk.
@@ -93,7 +57,7 @@ pub fn check_by_records(
     area: &mut [u16],
     records: &[u16],
     count: usize,
-) -> LineAnswer
+) -> Result<Verdict, Refusal>
     requires { Usable b.now area.old at }
     ensures { Answered at area.old area.new (line_said result)
         (rule8 count ∷ rule12 b.now area.old records.now count
@@ -101,13 +65,9 @@ pub fn check_by_records(
         (walk_of b.now area.old (records_in records.now count)) }
 {
     if count == 0 {
-        return LineAnswer::Refused(Refusal::Empty);
+        return Err(Refusal::Empty);
     }
     let slots = lay_slots(at);
-    let checked = check_records(b, at, area, slots, records, count);
-    let Checked::Good = checked else {
-        return LineAnswer::Refused(record_refusal(checked));
-    };
-    let walked = walk(b, at, area, records, count);
-    walk_answer(walked)
+    check_records(b, at, area, slots, records, count)?;
+    Ok(walk(b, at, area, records, count))
 }

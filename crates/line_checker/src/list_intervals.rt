@@ -5,106 +5,91 @@ ghost use Rattle.paper.specs.Calls.{needed, said, words_of};
 ghost use Rattle.paper.specs.Intervals.{intervals};
 ghost use Rattle.paper.specs.Refusals.{rule9, rule10, rule11, whole_records};
 ghost use Rattle.paper.specs.Words.{words_from};
-ghost use Rattle.answers.specs.Said.{intervals_said};
-ghost use Rattle.refusals.specs.Said.{ruling};
+ghost use Rattle.answers.specs.Said.{written_said};
 ghost use Rattle.tables.specs.Answered.{AnsweredInto, AnsweredBytes};
 ghost use Rattle.tables.specs.Usable.{Usable};
-ghost use Rattle.take_in.specs.Said.{taken_said};
-ghost use Rattle.line_checker.specs.InRoom.{InRoom, StandsTaken, list_taken};
+ghost use Rattle.line_checker.specs.InRoom.{InRoom};
 
 use super::room::{copy_out, record_room};
-use answers::IntervalsAnswer;
-use intervals::{Intervals, get_intervals};
+use intervals::get_intervals;
 use refusals::Refusal;
 use tables::Layout;
-use take_in::{Taken, list_refusal, take_in, take_in_bytes};
+use take_in::take_in;
 use words::bytes::put_words;
+use words::entries::Entries;
 
-// The intervals of the list that was taken in, in a room.
-fn find_intervals(
+// The intervals of a list, in a room: refusals 9, 10, and no records for no nodes.
+fn find_intervals<E: Entries + Copy>(
     b: &[u8],
     at: Layout,
     area: &mut [u16],
-    taken: Taken,
+    list: E,
     room: &mut [u16],
-) -> IntervalsAnswer
+) -> Result<Option<usize>, Refusal>
     requires usable { Usable b.now area.old at }
-    requires stands_taken { StandsTaken area.old at taken }
     requires links_in_bounds { 3 * (at.sizes.nodes + at.sizes.links) ≤ length room.old }
-    ensures { InRoom said words_of at area.old area.new (intervals_said result) (ruling (taken_said taken) ∷ [])
-        (intervals b.now area.old (list_taken area.old at taken)) room.new }
+    ensures { InRoom said words_of at area.old area.new (written_said result)
+        (rule9 b.now (E.entries list) ∷ rule10 (E.entries list) ∷ [])
+        (intervals b.now area.old (E.entries list)) room.new }
 {
-    let Taken::Nodes(count) = taken else {
-        return IntervalsAnswer::Refused(list_refusal(taken));
-    };
-    let found = get_intervals(b, at, area, count, room);
-    let Intervals::Records(made) = found else {
-        return IntervalsAnswer::NotContiguous;
-    };
-    IntervalsAnswer::Records(made)
+    if list.count() == 0 {
+        return Ok(Some(0));
+    }
+    let count = take_in(list, at.sizes.nodes, area, at.scratch)?;
+    Ok(get_intervals(b, at, area, count, room))
 }
 
-// The intervals of a list: refusals 9, 10, 11, and no records for no nodes.
-pub fn intervals_of_list(
+// The intervals of a list: refusals 9, 10, 11.
+pub fn intervals_of_list<E: Entries + Copy>(
     b: &[u8],
     at: Layout,
     area: &mut [u16],
-    list: &[u16],
+    list: E,
     buffer: &mut [u16],
-) -> IntervalsAnswer
+) -> Result<Option<usize>, Refusal>
     requires { Usable b.now area.old at }
-    ensures { AnsweredInto at area.old area.new (intervals_said result)
-        (rule9 b.now list.now ∷ rule10 list.now
-        ∷ rule11 (whole_records buffer.old) (needed (intervals b.now area.old list.now)) ∷ [])
-        (said (intervals b.now area.old list.now))
+    ensures { AnsweredInto at area.old area.new (written_said result)
+        (rule9 b.now (E.entries list) ∷ rule10 (E.entries list)
+        ∷ rule11 (whole_records buffer.old) (needed (intervals b.now area.old (E.entries list))) ∷ [])
+        (said (intervals b.now area.old (E.entries list)))
         buffer.old buffer.new
-        (words_of (intervals b.now area.old list.now)) }
+        (words_of (intervals b.now area.old (E.entries list))) }
 {
-    if list.len() == 0 {
-        return IntervalsAnswer::Records(0);
-    }
     let mut room = record_room();
-    let taken = take_in(list, at.sizes.nodes, area, at.scratch);
-    let found = find_intervals(b, at, area, taken, &mut room);
-    let IntervalsAnswer::Records(made) = found else {
-        return found;
+    let Some(made) = find_intervals(b, at, area, list, &mut room)? else {
+        return Ok(None);
     };
     if buffer.len() / 3 < made {
-        return IntervalsAnswer::Refused(Refusal::TooLong(made));
+        return Err(Refusal::TooLong(made));
     }
     copy_out(&room, buffer, 3 * made);
-    found
+    Ok(Some(made))
 }
 
-// The same of a list in bytes, into a buffer of bytes.
-pub fn intervals_of_list_bytes(
+// The same into a buffer of bytes.
+pub fn intervals_of_list_bytes<E: Entries + Copy>(
     b: &[u8],
     at: Layout,
     area: &mut [u16],
-    list: &[u8],
+    list: E,
     buffer: &mut [u8],
-) -> IntervalsAnswer
+) -> Result<Option<usize>, Refusal>
     requires { Usable b.now area.old at }
-    ensures { AnsweredBytes at area.old area.new (intervals_said result)
-        (rule9 b.now (words_from list.now) ∷ rule10 (words_from list.now)
+    ensures { AnsweredBytes at area.old area.new (written_said result)
+        (rule9 b.now (E.entries list) ∷ rule10 (E.entries list)
         ∷ rule11 (whole_records (words_from buffer.old))
-        (needed (intervals b.now area.old (words_from list.now))) ∷ [])
-        (said (intervals b.now area.old (words_from list.now)))
+        (needed (intervals b.now area.old (E.entries list))) ∷ [])
+        (said (intervals b.now area.old (E.entries list)))
         buffer.old buffer.new
-        (words_of (intervals b.now area.old (words_from list.now))) }
+        (words_of (intervals b.now area.old (E.entries list))) }
 {
-    if list.len() / 2 == 0 {
-        return IntervalsAnswer::Records(0);
-    }
     let mut room = record_room();
-    let taken = take_in_bytes(list, at.sizes.nodes, area, at.scratch);
-    let found = find_intervals(b, at, area, taken, &mut room);
-    let IntervalsAnswer::Records(made) = found else {
-        return found;
+    let Some(made) = find_intervals(b, at, area, list, &mut room)? else {
+        return Ok(None);
     };
     if buffer.len() / 2 / 3 < made {
-        return IntervalsAnswer::Refused(Refusal::TooLong(made));
+        return Err(Refusal::TooLong(made));
     }
-    put_words(&room[0..3 * made], buffer);
-    found
+    put_words(&room[..3 * made], buffer);
+    Ok(Some(made))
 }

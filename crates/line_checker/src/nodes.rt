@@ -3,16 +3,15 @@
 ghost use Rattle.std.specs.Prelude.{[], ◌∷◌, ◌≤◌, length};
 ghost use Rattle.paper.specs.Records.{nodes_in, records_in};
 ghost use Rattle.paper.specs.Refusals.{rule11, rule12, rule13};
-ghost use Rattle.answers.specs.Said.{nodes_said};
+ghost use Rattle.refusals.specs.Said.{answer_of};
 ghost use Rattle.tables.specs.Answered.{AnsweredInto};
 ghost use Rattle.tables.specs.Usable.{Usable};
 ghost use Rattle.line_checker.specs.InRoom.{InRoom, itself};
 
 use super::room::{copy_out, node_room};
-use answers::NodesAnswer;
 use nodes_in::nodes_in;
+use records::check_records;
 use records::layout::lay_slots;
-use records::{Checked, check_records, record_refusal};
 use refusals::Refusal;
 use tables::Layout;
 
@@ -24,20 +23,17 @@ pub fn find_nodes(
     records: &[u16],
     count: usize,
     room: &mut [u16],
-) -> NodesAnswer
+) -> Result<usize, Refusal>
     requires usable { Usable b.now area.old at }
     requires in_bounds { 1793 ≤ length room.old }
-    ensures { InRoom length itself at area.old area.new (nodes_said result)
+    ensures { InRoom length itself at area.old area.new (answer_of result)
         (rule12 b.now area.old records.now count
         ∷ rule13 b.now area.old (records_in records.now count) ∷ [])
         (nodes_in b.now area.old (records_in records.now count)) room.new }
 {
     let slots = lay_slots(at);
-    let checked = check_records(b, at, area, slots, records, count);
-    let Checked::Good = checked else {
-        return NodesAnswer::Refused(record_refusal(checked));
-    };
-    NodesAnswer::Nodes(nodes_in(b, at, area, slots, records, count, room))
+    check_records(b, at, area, slots, records, count)?;
+    Ok(nodes_in(b, at, area, slots, records, count, room))
 }
 
 // The nodes in records: refusals 12, 13, 11.
@@ -48,9 +44,9 @@ pub fn nodes_of_records(
     records: &[u16],
     count: usize,
     buffer: &mut [u16],
-) -> NodesAnswer
+) -> Result<usize, Refusal>
     requires { Usable b.now area.old at }
-    ensures { AnsweredInto at area.old area.new (nodes_said result)
+    ensures { AnsweredInto at area.old area.new (answer_of result)
         (rule12 b.now area.old records.now count
         ∷ rule13 b.now area.old (records_in records.now count)
         ∷ rule11 (length buffer.old) (length (nodes_in b.now area.old (records_in records.now count))) ∷ [])
@@ -59,13 +55,10 @@ pub fn nodes_of_records(
         (nodes_in b.now area.old (records_in records.now count)) }
 {
     let mut room = node_room();
-    let found = find_nodes(b, at, area, records, count, &mut room);
-    let NodesAnswer::Nodes(made) = found else {
-        return found;
-    };
+    let made = find_nodes(b, at, area, records, count, &mut room)?;
     if buffer.len() < made {
-        return NodesAnswer::Refused(Refusal::TooLong(made));
+        return Err(Refusal::TooLong(made));
     }
     copy_out(&room, buffer, made);
-    found
+    Ok(made)
 }

@@ -1,4 +1,5 @@
-// Rooms of the calls' own, and copying out of them: a result is written to a lent buffer only when it is whole.
+// Rooms of the calls' own, each size said once for the places that use it, and copying out of them: a result is written to a lent buffer only when
+// it is whole.
 ghost use Rattle.std.specs.Prelude.{◌≡◌, ◌≤◌, length, take};
 ghost use Rattle.std.proofs.lemmas.List.Edits.{sets};
 
@@ -21,9 +22,5 @@ pub fn copy_out(from: &[u16], to: &mut [u16], n: usize)
     requires { (n ≤ length from.now) × (n ≤ length to.old) }
     ensures { to.new ≡ sets to.old 0 (take n from.now) }
 {
-    let mut i = 0;
-    while i < n {
-        to[i] = from[i];
-        i += 1;
-    }
+    to[..n].copy_from_slice(&from[..n]);
 }

@@ -1,4 +1,4 @@
--- A turn of one node's pushes: what it reads, that it stays in bounds, and what it leaves.
+-- A turn of one node's pushes: what it reads, that what it writes stays in bounds, and what it leaves.
 -- Rests on Pushes and lists.Places.
 use Prim.Native.Nat.{ℕ, suc, ◌+◌, ◌-◌, ◌≤◌, ◌<◌}
 use native.Mathlib.Omega.{arith}
@@ -38,13 +38,7 @@ module _ {a : List ℕ} {node_starts lines cursors nodes v : ℕ} (ready : RowPu
   row : List ℕ
   row = row_in a node_starts lines v
 
-  pub first-inside : node_starts + v < length a
-  first-inside = omega (arith, ready.rowed.started, ready.rowed.ends, ready.after, ready.inside)
-
-  pub second-inside : node_starts + (v + 1) < length a
-  second-inside = omega (arith, ready.rowed.started, ready.rowed.ends, ready.after, ready.inside)
-
-  pub as_long : {area : List ℕ} (ls : List ℕ) → area ≡ row_pushed a cursors nodes v ls → length area ≡ length a
+  as_long : {area : List ℕ} (ls : List ℕ) → area ≡ row_pushed a cursors nodes v ls → length area ≡ length a
   as_long ls now = ap length now ∙ length-row cursors nodes a v ls
 
   -- before the first entry nothing is pushed
@@ -77,9 +71,6 @@ module _ {a : List ℕ} {node_starts lines cursors nodes v : ℕ} (ready : RowPu
 
       within : e - from < length row
       within = omega (arith, long-row)
-
-      pub entry-inside : lines + e < length area
-      entry-inside = omega (arith, long, ends, ready.rowed.ends, ready.after, ready.inside)
 
       entry-is : get_or area (lines + e) 0 ≡ get_or row (e - from) 0
       unfolding row

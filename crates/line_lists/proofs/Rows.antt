@@ -5,8 +5,8 @@ use native.Mathlib.Omega.{arith}
 use native.Mathlib.Numerals.{add-one}
 use mathlib.Core.Path.{◌≡◌, refl, sym, ap, ap₂, ◌∙◌, subst}
 use mathlib.Core.List.{List}
-use lib.ListN.{length, get_or, take, drop, length-take}
-use lib.Seq.{ext_get_or, take_all}
+use lib.ListN.{length, get_or, take}
+use lib.Seq.{ext_get_or}
 use Rattle.lists.specs.Lists.{times}
 use Rattle.lists.specs.Weight.{total}
 use Rattle.lists.proofs.Sections.{part, length_part, get_d_part}
@@ -57,7 +57,7 @@ module _ {a : List ℕ} {n order node_starts lines cursors nodes : ℕ} (ready :
   us : List ℕ
   us = part a order n
 
-  pub as_long : {area : List ℕ} (t : ℕ) → area ≡ all_pushed a cursors nodes (row_in a node_starts lines) (take t (part a order n)) → length area ≡ length a
+  as_long : {area : List ℕ} (t : ℕ) → area ≡ all_pushed a cursors nodes (row_in a node_starts lines) (take t (part a order n)) → length area ≡ length a
   as_long t now = ap length now ∙ length-all cursors nodes (row_in a node_starts lines) a (take t (part a order n))
 
   pub none-pushed : a ≡ all_pushed a cursors nodes (row_in a node_starts lines) (take 0 (part a order n))
@@ -70,9 +70,6 @@ module _ {a : List ℕ} {n order node_starts lines cursors nodes : ℕ} (ready :
 
     low-order : order + t < cursors
     low-order = omega (arith, ready.ordered, (ready.rowed t less).started, (ready.rowed t less).ends)
-
-    pub node-inside : order + t < length area
-    node-inside = omega (arith, long, low-order, ready.after, ready.inside)
 
     stands : (i : ℕ) → i < cursors → get_or area i 0 ≡ get_or a i 0
     stands i h =
@@ -140,9 +137,3 @@ module _ {a : List ℕ} {n order node_starts lines cursors nodes : ℕ} (ready :
           ∙ ap₂ (λ (x : List ℕ) (w : ℕ). row_pushed x cursors nodes w (row_in a node_starts lines w)) now node-here
           ∙ all-next cursors nodes (row_in a node_starts lines) a us t (omega (arith, many))
           ∙ ap (λ (i : ℕ). all_pushed a cursors nodes (row_in a node_starts lines) (take i us)) (sym (add-one t))
-
-  -- every node is pushed
-  pub all-pushed : {t : ℕ} → n ≤ t
-      → all_pushed a cursors nodes (row_in a node_starts lines) (take t (part a order n)) ≡ all_pushed a cursors nodes (row_in a node_starts lines) (part a order n)
-  all-pushed {t} h =
-      ap (all_pushed a cursors nodes (row_in a node_starts lines)) (take_all t (part a order n) (omega (arith, length-take n (drop order a))))

@@ -10,7 +10,6 @@ ghost use Rattle.line_lists.specs.Columns.{Transposing, columns_in, row_in};
 ghost use Rattle.line_lists.specs.Pushing.{AllPushing, RowPushing, all_pushed, row_pushed};
 
 use counting_sort::{accumulate, tally};
-use words::field::wide;
 use words::section::fill;
 
 // Pushes node v on each line of its row (the Rust's `lines[line_index].push(node)`).
@@ -25,14 +24,13 @@ fn push_node(
     requires { RowPushing area.old node_starts lines cursors nodes v }
     ensures { area.new ≡ row_pushed area.old cursors nodes v (row_in area.old node_starts lines v) }
 {
-    let mut e = wide(area[node_starts + v]);
-    let end = wide(area[node_starts + (v + 1)]);
-    while e < end {
-        let q = cursors + wide(area[lines + e]);
+    let start = usize::from(area[node_starts + v]);
+    let end = usize::from(area[node_starts + (v + 1)]);
+    for e in start..end {
+        let q = cursors + usize::from(area[lines + e]);
         let spot = area[q];
-        area[nodes + wide(spot)] = v as u16;
+        area[nodes + usize::from(spot)] = v as u16;
         area[q] = spot + 1;
-        e += 1;
     }
 }
 
@@ -50,11 +48,9 @@ fn push_nodes(
     ensures { area.new
         ≡ all_pushed area.old cursors nodes (row_in area.old node_starts lines) (take n (drop order area.old)) }
 {
-    let mut t = 0;
-    while t < n {
-        let v = wide(area[order + t]);
+    for t in 0..n {
+        let v = usize::from(area[order + t]);
         push_node(area, node_starts, lines, cursors, nodes, v);
-        t += 1;
     }
 }
 

@@ -18,6 +18,8 @@ use Rattle.neighbours.proofs.NodeLinks.{out-part, in_part}
 use Rattle.neighbours.proofs.Writing.{source-below, target_below}
 use Rattle.lines_theory.proofs.Prepared.{tables-sized}
 use Rattle.stepmap.specs.Formed.{ReadWell}
+use Rattle.tables.specs.declared.Layout.{Layout}
+use Rattle.line_tables.specs.declared.room.Room.{Room}
 use Rattle.line_tables.specs.Layout.{out_keys, in_keys, entries}
 use Rattle.line_tables.specs.Spread.{Spread}
 
@@ -92,16 +94,16 @@ module _ {b : List ℕ} {n l p : ℕ} (read : ReadWell b n l p) (is-sound : Soun
         omega
         (arith, in_count, below_length (in_keys b) (first_port b (suc v)), length-table (target_port b) (L b), read.links)
 
-module _ {b a : List ℕ} {n l p : ℕ} (s : Spread b a n l p) where
+module _ {b a : List ℕ} {at : Layout} {room : Room} (s : Spread b a at room) where
   pub is-sound : Sound b
   is-sound = sound b s.ready.links
 
-  pub out-span : (v : ℕ) → v < n → below (out_keys b) (first_port b v) + length (out_links b v) ≤ l
+  pub out-span : (v : ℕ) → v < at.sizes.nodes → below (out_keys b) (first_port b v) + length (out_links b v) ≤ at.sizes.links
   out-span v h = out-fits s.ready.read is-sound v h
 
-  pub in_span : (v : ℕ) → v < n → below (in_keys b) (first_port b v) + length (in_links b v) ≤ l
+  pub in_span : (v : ℕ) → v < at.sizes.nodes → below (in_keys b) (first_port b v) + length (in_links b v) ≤ at.sizes.links
   in_span v h = in_fits s.ready.read is-sound v h
 
-  pub entries_fit : entries b ≤ n + 2 * l
+  pub entries_fit : entries b ≤ at.sizes.nodes + 2 * at.sizes.links
   entries_fit =
       omega (arith, (tables-sized b s.ready.links s.cycle).few, s.ready.read.nodes, s.ready.read.links)

@@ -23,7 +23,9 @@ use Rattle.lines_theory.proofs.Taken.{port-stands, taken_so_far}
 use Rattle.lines_theory.proofs.Weighed.{owner-is}
 use Rattle.neighbours.proofs.Writing.{has-link, source-below}
 use Rattle.counting_sort.specs.Sorted.{below}
-use Rattle.line_tables.specs.Layout.{positions_at, lists_at, ports_at, tops_at, in_sorted_at, stack_at, in_keys, start_of}
+use Rattle.tables.specs.declared.Layout.{Layout}
+use Rattle.line_tables.specs.declared.room.Room.{Room}
+use Rattle.line_tables.specs.Layout.{in_keys, start_of}
 use Rattle.line_tables.specs.Spread.{Spread, Over, Changed, top}
 use Rattle.line_tables.specs.Frontier.{height, Stacks, Held, node_at, frontier_at, Turned, taking_to, TakenTo}
 use Rattle.line_tables.specs.Steps.{link_in, port_of, top_of, TakingLine, TakingLines, line_taken, taken_after, position_met, position_after}
@@ -67,14 +69,14 @@ above-one_more (x ∷ es) e =
 
 -- ---- a node's turn
 
-module _ {b a₀ : List ℕ} {n l p t : ℕ} (spread : Spread b a₀ n l p) (here : t < n) where
+module _ {b a₀ : List ℕ} {at : Layout} {room : Room} {t : ℕ} (spread : Spread b a₀ at room) (here : t < at.sizes.nodes) where
   ok : Passing b
   ok = passing spread
 
   pub turn-known : t < N b
   turn-known = omega (arith, spread.ready.read.nodes)
 
-  pub node-low : node_at b t < n
+  pub node-low : node_at b t < at.sizes.nodes
   node-low = omega (arith, node-known ok t turn-known, spread.ready.read.nodes)
 
   before : Lined b (take t (order b)) (frontier_at b t)
@@ -132,10 +134,10 @@ module _ {b a₀ : List ℕ} {n l p t : ℕ} (spread : Spread b a₀ n l p) (her
         (left_there (take j (sources b (node_at b t))) (record { taken = []; ends = (frontier_at b t).ends }) end-taken.stood)
 
     -- the end that is taken stands at the position of the node that the link comes from
-    end-position : {a : List ℕ} → Held b a n (frontier_at b t).placed → get_or a (positions_at n + link_from b link) 0 ≡ end-taken.end.position
+    end-position : {a : List ℕ} → Held b a at (frontier_at b t).placed → get_or a (at.positions + link_from b link) 0 ≡ end-taken.end.position
     unfolding port
     end-position {a} held =
-        ap (λ (v : ℕ). get_or a (positions_at n + v) 0) (sym owner) ∙ held.positions stood.last last-placed ∙ stood.height
+        ap (λ (v : ℕ). get_or a (at.positions + v) 0) (sym owner) ∙ held.positions stood.last last-placed ∙ stood.height
       where
         last-placed : Memᴰ stood.last (frontier_at b t).placed
         last-placed =
@@ -161,99 +163,111 @@ module _ {b a₀ : List ℕ} {n l p t : ℕ} (spread : Spread b a₀ n l p) (her
 
     -- ---- the step on the area
 
-    module _ {a : List ℕ} (over : Over b n l p a₀ a) (to : TakenTo b a n l p t j) {first list : ℕ}
-        (is-first : first ≡ below (in_keys b) (first_port b (node_at b t))) (is-list : list ≡ lists_at n + start_of b (node_at b t)) where
-      now : Spread b a n l p
+    module _ {a : List ℕ} (over : Over b at room a₀ a) (to : TakenTo b a at room t j) {first list : ℕ}
+        (is-first : first ≡ below (in_keys b) (first_port b (node_at b t))) (is-list : list ≡ at.lines + start_of b (node_at b t)) where
+      now : Spread b a at room
       now = spread_over spread over
 
-      link_here : link_in a n l p (first + j) ≡ link
+      link_here : link_in a room (first + j) ≡ link
       unfolding link
       link_here =
-          ap (λ (x : ℕ). get_or a (in_sorted_at n l p + (x + j)) 0) is-first ∙ now.in_link (node_at b t) node-low j more
+          ap (λ (x : ℕ). get_or a (room.in_sorted + (x + j)) 0) is-first ∙ now.in_link (node_at b t) node-low j more
 
-      link-low : link < l
+      link-low : link < at.sizes.links
       link-low = omega (arith, link-known, spread.ready.read.links)
 
-      port-here : port_of a n l (link_in a n l p (first + j)) ≡ port
+      port-here : port_of a room (link_in a room (first + j)) ≡ port
       unfolding port
-      port-here = ap (λ (k : ℕ). get_or a (ports_at n l + k) 0) link_here ∙ now.port-is link link-low
+      port-here = ap (λ (k : ℕ). get_or a (room.ports + k) 0) link_here ∙ now.port-is link link-low
 
-      port-low : port < p
+      port-low : port < at.sizes.ports
       unfolding port
       port-low = source-below spread.ready.read (is-sound spread) link-low
 
-      room : stack_at n l p + l ≤ length a
-      room = omega (arith, now.ready.room)
+      end_inside : room.stack + at.sizes.links ≤ length a
+      end_inside = omega (arith, now.ready.long)
 
-      links : L b ≡ l
+      links : L b ≡ at.sizes.links
       links = spread.ready.read.links
 
-      pub takes : TakingLine b a n l p (first + j) (list + j)
+      pub takes : TakingLine b a at room (first + j) (list + j)
       takes =
           record {
-            room = now.ready.room;
-            place = omega (arith, is-first, in_span spread (node_at b t) node-low);
-            link = omega (arith, link_here, link-low);
-            source = omega (arith, ap (link_from b) link_here, (is-sound spread).source link link-known, spread.ready.read.nodes);
+            place-inside = omega (arith, is-first, in_span spread (node_at b t) node-low, now.ready.fits, now.ready.placed, now.ready.long);
+            link-inside = omega (arith, link_here, link-low, now.ready.fits, now.ready.placed, now.ready.long);
+            source-inside =
+                omega (
+                  arith,
+                  ap (link_from b) link_here,
+                  (is-sound spread).source link link-known,
+                  spread.ready.read.nodes,
+                  now.ready.placed,
+                  now.ready.fits,
+                  now.ready.long,
+                );
             record_there = rw link_here (has-link spread.ready.read (is-sound spread) link-low);
-            port = omega (arith, port-here, port-low);
-            some = rw port-here (top_some links to.stacks port port-low end-taken room);
-            inside = rw port-here (top_few links to.stacks port port-low end-taken room);
-            in_list = omega (arith, is-list, in_row, row_inside ok (node_at b t) (node-known ok t turn-known), entries_fit spread);
+            popping =
+                rw port-here
+                (record {
+                  apart = omega (arith, port-low, now.ready.fits);
+                  some = top_some links to.stacks port port-low end-taken end_inside spread.ready.fits;
+                  inside = omega (arith, top_few links to.stacks port port-low end-taken end_inside spread.ready.fits, end_inside);
+                });
+            to-inside = omega (arith, is-list, in_row, row_inside ok (node_at b t) (node-known ok t turn-known), entries_fit spread, now.ready.placed, now.ready.fits, now.ready.long);
             shallow =
                 omega
-                (arith, ap (λ (k : ℕ). get_or a (positions_at n + link_from b k) 0) link_here, end-position to.held, end-shallow);
+                (arith, ap (λ (k : ℕ). get_or a (at.positions + link_from b k) 0) link_here, end-position to.held, end-shallow);
           }
 
       popped_area : List ℕ
-      popped_area = set a (tops_at n l + port) (top_of a n l port - 1)
+      popped_area = set a (room.tops + port) (top_of a room port - 1)
 
-      left_is : line_taken a n l p (first + j) (list + j) ≡ set popped_area (lists_at n + (start_of b (node_at b t) + j)) end-taken.end.line
+      left_is : line_taken a room (first + j) (list + j) ≡ set popped_area (at.lines + (start_of b (node_at b t) + j)) end-taken.end.line
       unfolding line_taken popped_area
       left_is =
-          ap (λ (q : ℕ). set (set a (tops_at n l + q) (top_of a n l q - 1)) (list + j) (get_or a (stack_at n l p + (top_of a n l q - 1)) 0)) port-here
-          ∙ ap₂ (λ (k x : ℕ). set popped_area k x) (at_list is-list) (top_line links to.stacks port port-low end-taken room)
+          ap (λ (q : ℕ). set (set a (room.tops + q) (top_of a room q - 1)) (list + j) (get_or a (room.stack + (top_of a room q - 1)) 0)) port-here
+          ∙ ap₂ (λ (k x : ℕ). set popped_area k x) (at_list is-list) (top_line links to.stacks port port-low end-taken end_inside spread.ready.fits)
         where
-          at_list : list ≡ lists_at n + start_of b (node_at b t) → list + j ≡ lists_at n + (start_of b (node_at b t) + j)
+          at_list : list ≡ at.lines + start_of b (node_at b t) → list + j ≡ at.lines + (start_of b (node_at b t) + j)
           at_list e = omega (arith, e)
 
-      pub over_next : {m : List ℕ} → m ≡ line_taken a n l p (first + j) (list + j) → Over b n l p a₀ m
+      pub over_next : {m : List ℕ} → m ≡ line_taken a room (first + j) (list + j) → Over b at room a₀ m
       unfolding popped_area
       over_next e =
           rw (e ∙ left_is)
-          (over_set spread (over_set spread over (tops_at n l + port) (top_of a n l port - 1) (top (omega arith) (omega (arith, port-low))))
-          (lists_at n + (start_of b (node_at b t) + j)) end-taken.end.line
+          (over_set spread (over_set spread over (room.tops + port) (top_of a room port - 1) (top (omega arith) (omega (arith, port-low))))
+          (at.lines + (start_of b (node_at b t) + j)) end-taken.end.line
           (Changed.list (omega arith) (omega (arith, in_row, row_inside ok (node_at b t) (node-known ok t turn-known)))))
 
       written : List ℕ
-      written = set popped_area (lists_at n + (start_of b (node_at b t) + j)) end-taken.end.line
+      written = set popped_area (at.lines + (start_of b (node_at b t) + j)) end-taken.end.line
 
-      stacks-next : Stacks b written n l p (taking_to b t (suc j)).ends
+      stacks-next : Stacks b written at room (taking_to b t (suc j)).ends
       unfolding written popped_area
       stacks-next =
-          subst (Stacks b written n l p) (sym ends_next)
-          (stacks-same links (stacks_pop links to.stacks port port-low end-taken room)
-          (λ q h. get_or-set_other popped_area spot (tops_at n l + q) end-taken.end.line 0 (λ e. omega (arith, e, low)))
-          (λ i h. get_or-set_other popped_area spot (stack_at n l p + i) end-taken.end.line 0 (λ e. omega (arith, e, low))))
+          subst (Stacks b written at room) (sym ends_next)
+          (stacks-same links (stacks_pop links to.stacks port port-low end-taken end_inside spread.ready.fits)
+          (λ q h. get_or-set_other popped_area spot (room.tops + q) end-taken.end.line 0 (λ e. omega (arith, e, low)))
+          (λ i h. get_or-set_other popped_area spot (room.stack + i) end-taken.end.line 0 (λ e. omega (arith, e, low))))
         where
           spot : ℕ
-          spot = lists_at n + (start_of b (node_at b t) + j)
+          spot = at.lines + (start_of b (node_at b t) + j)
 
-          low : lists_at n + (start_of b (node_at b t) + j) < tops_at n l
+          low : at.lines + (start_of b (node_at b t) + j) < room.tops
           low = omega (arith, in_row, row_inside ok (node_at b t) (node-known ok t turn-known), entries_fit spread)
 
-      held_next : Held b written n (frontier_at b t).placed
+      held_next : Held b written at (frontier_at b t).placed
       unfolding written popped_area
       held_next =
-          held-row spread (omega arith) (held_far spread (omega arith) to.held (tops_at n l + port) (top_of a n l port - 1) (omega arith)) here
-          (λ i away. get_or-set_other popped_area (lists_at n + (start_of b (node_at b t) + j)) i end-taken.end.line 0 (outside i away))
+          held-row spread (omega arith) (held_far spread (omega arith) to.held (room.tops + port) (top_of a room port - 1) (omega arith)) here
+          (λ i away. get_or-set_other popped_area (at.lines + (start_of b (node_at b t) + j)) i end-taken.end.line 0 (outside i away))
         where
-          outside : (i : ℕ) → Apart i (lists_at n + start_of b (node_at b t)) (length (row b (node_at b t))) → i ≡ lists_at n + (start_of b (node_at b t) + j) → ⊥
+          outside : (i : ℕ) → Apart i (at.lines + start_of b (node_at b t)) (length (row b (node_at b t))) → i ≡ at.lines + (start_of b (node_at b t) + j) → ⊥
           outside i (inl under) e = omega (arith, e)
           outside i (inr over) e = omega (arith, e, in_row)
 
       row_next : length (taking_to b t j).taken ≡ j → (i : ℕ) → i < suc j
-          → get_or written (lists_at n + (start_of b (node_at b t) + i)) 0 ≡ get_or (map (λ e. e.line) (taking_to b t (suc j)).taken) i 0
+          → get_or written (at.lines + (start_of b (node_at b t) + i)) 0 ≡ get_or (map (λ e. e.line) (taking_to b t (suc j)).taken) i 0
       unfolding written popped_area
       row_next long i h = go (dec_lt i j) ∙ ap (λ (ls : List ℕ). get_or ls i 0) (sym lines_next)
         where
@@ -267,26 +281,26 @@ module _ {b a₀ : List ℕ} {n l p t : ℕ} (spread : Spread b a₀ n l p) (her
           lines_long : length (map (λ e. e.line) (taking_to b t j).taken) ≡ j
           lines_long = length-map (taking_to b t j).taken (λ e. e.line) ∙ long
 
-          low : (k : ℕ) → k ≤ j → lists_at n + (start_of b (node_at b t) + k) < tops_at n l
+          low : (k : ℕ) → k ≤ j → at.lines + (start_of b (node_at b t) + k) < room.tops
           low k le = omega (arith, in_row, row_inside ok (node_at b t) (node-known ok t turn-known), entries_fit spread)
 
           last : (i j : ℕ) → i < suc j → (i < j → ⊥) → i ≡ j
           last i j h ge = omega arith
 
-          go : Dec (i < j) → get_or written (lists_at n + (start_of b (node_at b t) + i)) 0 ≡ get_or (map (λ e. e.line) (taking_to b t j).taken ++ (end-taken.end.line ∷ [])) i 0
+          go : Dec (i < j) → get_or written (at.lines + (start_of b (node_at b t) + i)) 0 ≡ get_or (map (λ e. e.line) (taking_to b t j).taken ++ (end-taken.end.line ∷ [])) i 0
           go (yes lt) =
-              get_or-set_other popped_area (lists_at n + (start_of b (node_at b t) + j)) (lists_at n + (start_of b (node_at b t) + i)) end-taken.end.line 0 (λ e. omega (arith, e))
-              ∙ get_or-set_other a (tops_at n l + port) (lists_at n + (start_of b (node_at b t) + i)) (top_of a n l port - 1) 0 (λ e. omega (arith, e, low i (omega arith)))
+              get_or-set_other popped_area (at.lines + (start_of b (node_at b t) + j)) (at.lines + (start_of b (node_at b t) + i)) end-taken.end.line 0 (λ e. omega (arith, e))
+              ∙ get_or-set_other a (room.tops + port) (at.lines + (start_of b (node_at b t) + i)) (top_of a room port - 1) 0 (λ e. omega (arith, e, low i (omega arith)))
               ∙ to.row i lt
               ∙ sym (entry-before (map (λ e. e.line) (taking_to b t j).taken) end-taken.end.line i (omega (arith, lines_long)))
           go (no ge) =
               rw (last i j h ge)
-              (get_or-set_same popped_area (lists_at n + (start_of b (node_at b t) + j)) end-taken.end.line 0
-              (omega (arith, low j (omega arith), room, length-set a (tops_at n l + port) (top_of a n l port - 1)))
+              (get_or-set_same popped_area (at.lines + (start_of b (node_at b t) + j)) end-taken.end.line 0
+              (omega (arith, low j (omega arith), end_inside, length-set a (room.tops + port) (top_of a room port - 1)))
               ∙ sym (entry-last (map (λ e. e.line) (taking_to b t j).taken) end-taken.end.line)
               ∙ ap (λ (k : ℕ). get_or (map (λ e. e.line) (taking_to b t j).taken ++ (end-taken.end.line ∷ [])) k 0) lines_long)
 
-      pub taken-on : {m : List ℕ} → m ≡ line_taken a n l p (first + j) (list + j) → TakenTo b m n l p t (suc j)
+      pub taken-on : {m : List ℕ} → m ≡ line_taken a room (first + j) (list + j) → TakenTo b m at room t (suc j)
       unfolding written
       taken-on e =
           rw (e ∙ left_is)
@@ -297,31 +311,31 @@ module _ {b a₀ : List ℕ} {n l p t : ℕ} (spread : Spread b a₀ n l p) (her
           })
 
       pub position-next : {position r : ℕ} → position ≡ position_above (taking_to b t j).taken
-          → r ≡ position_met b a n l p (first + j) position → r ≡ position_above (taking_to b t (suc j)).taken
+          → r ≡ position_met b a at room (first + j) position → r ≡ position_above (taking_to b t (suc j)).taken
       unfolding position_met
       position-next {position} is-position said =
           said
-          ∙ ap₂ (λ (x y : ℕ). max x (suc y)) is-position (ap (λ (k : ℕ). get_or a (positions_at n + link_from b k) 0) link_here ∙ end-position to.held)
+          ∙ ap₂ (λ (x y : ℕ). max x (suc y)) is-position (ap (λ (k : ℕ). get_or a (at.positions + link_from b k) 0) link_here ∙ end-position to.held)
           ∙ sym (above-one_more (taking_to b t j).taken end-taken.end)
           ∙ ap position_above (sym taken_next)
 
 -- ---- all of a node's linked inputs
 
 -- after j of them
-pub record TakenSoFar (b a₀ a : List ℕ) (n l p t j position : ℕ) : Type 0 where
-  pub over : Over b n l p a₀ a
-  pub taken : TakenTo b a n l p t j
+pub record TakenSoFar (b a₀ a : List ℕ) (at : Layout) (room : Room) (t j position : ℕ) : Type 0 where
+  pub over : Over b at room a₀ a
+  pub taken : TakenTo b a at room t j
   pub height : position ≡ position_above (taking_to b t j).taken
 
-module _ {b a : List ℕ} {n l p t first list : ℕ} (turned : Turned b a n l p t) (here : t < n)
-    (is-first : first ≡ below (in_keys b) (first_port b (node_at b t))) (is-list : list ≡ lists_at n + start_of b (node_at b t)) where
+module _ {b a : List ℕ} {at : Layout} {room : Room} {t first list : ℕ} (turned : Turned b a at room t) (here : t < at.sizes.nodes)
+    (is-first : first ≡ below (in_keys b) (first_port b (node_at b t))) (is-list : list ≡ at.lines + start_of b (node_at b t)) where
   taken_so_far_on : (j : ℕ) → j ≤ length (in_links b (node_at b t))
-      → TakenSoFar b a (taken_after a n l p first list j) n l p t j (position_after b a n l p first list j)
+      → TakenSoFar b a (taken_after a room first list j) at room t j (position_after b a at room first list j)
   unfolding taken_after position_after take_all position_above
   taken_so_far_on zero h =
       record {
         over = over_itself;
-        taken = record { stacks = turned.stacks; held = turned.held; row = λ i l. absurd (omega arith) };
+        taken = record { stacks = turned.stacks; held = turned.held; row = λ i low. absurd (omega arith) };
         height = refl;
       }
   taken_so_far_on (suc j) h =
@@ -332,13 +346,13 @@ module _ {b a : List ℕ} {n l p t first list : ℕ} (turned : Turned b a n l p 
         height = position-next turned.spread here j h s.over s.taken is-first is-list s.height refl;
       }
 
-  pub taking-lines : TakingLines b a n l p first list (length (in_links b (node_at b t)))
+  pub taking-lines : TakingLines b a at room first list (length (in_links b (node_at b t)))
   taking-lines j h =
       let s = taken_so_far_on j (omega arith) in
       takes turned.spread here j h s.over s.taken is-first is-list
 
-  pub all-taken : TakenSoFar b a (taken_after a n l p first list (length (in_links b (node_at b t)))) n l p t (length (in_links b (node_at b t)))
-      (position_after b a n l p first list (length (in_links b (node_at b t))))
+  pub all-taken : TakenSoFar b a (taken_after a room first list (length (in_links b (node_at b t)))) at room t (length (in_links b (node_at b t)))
+      (position_after b a at room first list (length (in_links b (node_at b t))))
   all-taken = taken_so_far_on (length (in_links b (node_at b t))) (omega arith)
 
 -- all linked inputs are all sources

@@ -6,14 +6,16 @@ use Rattle.paper.specs.Map.{first_port, source_port}
 use Rattle.paper.specs.Order.{order}
 use Rattle.paper.specs.Refusals.{passed, rule6}
 use Rattle.counting_sort.specs.Sorted.{starts_by, sorted_by}
-use Rattle.line_tables.specs.Layout.{Ready, firsts_at, tops_at, out_sorted_at}
+use Rattle.tables.specs.declared.Layout.{Layout}
+use Rattle.line_tables.specs.declared.room.Room.{Room}
+use Rattle.line_tables.specs.Layout.{Ready}
 
-pub record Laying (b a : List ℕ) (n l p : ℕ) : Type 0 where
-  pub ready : Ready b a n l p
+pub record Laying (b a : List ℕ) (at : Layout) (room : Room) : Type 0 where
+  pub ready : Ready b a at room
   pub cycle : rule6 b ≡ passed
-  pub order-stands : take n (drop 1 a) ≡ order b
-  pub firsts_stand : take (n + 1) (drop (firsts_at n l) a) ≡ map (first_port b) (upto (n + 1))
-  pub starts_stand : take (p + 1) (drop (tops_at n l) a) ≡ starts_by (map (source_port b) (upto l)) p
-  pub sorted_stand : take l (drop (out_sorted_at n l p) a) ≡ sorted_by (map (source_port b) (upto l)) p
+  pub order-stands : take at.sizes.nodes (drop at.order a) ≡ order b
+  pub firsts_stand : take (at.sizes.nodes + 1) (drop room.firsts a) ≡ map (first_port b) (upto (at.sizes.nodes + 1))
+  pub starts_stand : take (at.sizes.ports + 1) (drop room.tops a) ≡ starts_by (map (source_port b) (upto at.sizes.links)) at.sizes.ports
+  pub sorted_stand : take at.sizes.links (drop room.out_sorted a) ≡ sorted_by (map (source_port b) (upto at.sizes.links)) at.sizes.ports
   -- all tables but the order are still 0
-  pub clear : (i : ℕ) → (i < 1) ⊎ (1 + n ≤ i) → i < firsts_at n l → get_or a i 0 ≡ 0
+  pub clear : (i : ℕ) → (i < at.order) ⊎ (at.order + at.sizes.nodes ≤ i) → i < at.scratch → get_or a i 0 ≡ 0

@@ -1,3 +1,4 @@
+pub mod Room
 pub mod Laying
 pub mod Layout
 pub mod Spread

@@ -16,9 +16,8 @@ ghost use Rattle.recorded.specs.Questions.{
 
 use convex::{line_convex_checker as line, topo_convex_checker as topo};
 use line_checker::room::{copy_out, record_room};
-use recorded::held::{is_intervals_answer, is_line_answer, is_order_answer, is_port_answer};
+use recorded::held::{is_line_answer, is_order_answer, is_port_answer, is_written_answer};
 use recorded::line_parts::{Part, list_at};
-use words::field::wide;
 
 // Line check: the list; the answer.
 pub fn same_line_check(words: &[u16], map: &[u8], area: &mut [u16]) -> bool
@@ -26,7 +25,7 @@ pub fn same_line_check(words: &[u16], map: &[u8], area: &mut [u16]) -> bool
     ensures cleared { result ≡ true → area.new ≡ area_after map.now area.old }
 {
     let list = list_at(words, 1);
-    let Part::Words { from, to } = list else {
+    let Some(Part { from, to }) = list else {
         return false;
     };
     let answer = line::is_node_convex(map, area, &words[from..to]);
@@ -39,7 +38,7 @@ pub fn same_order_check(words: &[u16], map: &[u8], area: &mut [u16]) -> bool
     ensures cleared { result ≡ true → area.new ≡ area_after map.now area.old }
 {
     let list = list_at(words, 1);
-    let Part::Words { from, to } = list else {
+    let Some(Part { from, to }) = list else {
         return false;
     };
     let answer = topo::is_node_convex(map, area, &words[from..to]);
@@ -52,22 +51,26 @@ pub fn same_line_ports(words: &[u16], map: &[u8], area: &mut [u16]) -> bool
     ensures cleared { result ≡ true → area.new ≡ area_after map.now area.old }
 {
     let list = list_at(words, 1);
-    let Part::Words { from, to } = list else {
+    let Some(Part { from, to }) = list else {
         return false;
     };
     let inputs = list_at(words, to);
-    let Part::Words {
-        from: input,
-        to: inputs_end,
-    } = inputs
+    let Some(
+        Part {
+            from: input,
+            to: inputs_end,
+        },
+    ) = inputs
     else {
         return false;
     };
     let outputs = list_at(words, inputs_end);
-    let Part::Words {
-        from: output,
-        to: outputs_end,
-    } = outputs
+    let Some(
+        Part {
+            from: output,
+            to: outputs_end,
+        },
+    ) = outputs
     else {
         return false;
     };
@@ -87,22 +90,26 @@ pub fn same_order_ports(words: &[u16], map: &[u8], area: &mut [u16]) -> bool
     ensures cleared { result ≡ true → area.new ≡ area_after map.now area.old }
 {
     let list = list_at(words, 1);
-    let Part::Words { from, to } = list else {
+    let Some(Part { from, to }) = list else {
         return false;
     };
     let inputs = list_at(words, to);
-    let Part::Words {
-        from: input,
-        to: inputs_end,
-    } = inputs
+    let Some(
+        Part {
+            from: input,
+            to: inputs_end,
+        },
+    ) = inputs
     else {
         return false;
     };
     let outputs = list_at(words, inputs_end);
-    let Part::Words {
-        from: output,
-        to: outputs_end,
-    } = outputs
+    let Some(
+        Part {
+            from: output,
+            to: outputs_end,
+        },
+    ) = outputs
     else {
         return false;
     };
@@ -133,7 +140,7 @@ fn intervals_into(
     ensures cleared { area.new ≡ area_after map.now area.old }
 {
     let answer = line::get_intervals_from_nodes(map, area, list, buffer);
-    is_intervals_answer(words, at, answer, buffer)
+    is_written_answer(words, at, answer, buffer)
 }
 
 // Intervals: the list and the buffer; the answer and the buffer.
@@ -142,14 +149,16 @@ pub fn same_intervals(words: &[u16], map: &[u8], area: &mut [u16]) -> bool
     ensures cleared { result ≡ true → area.new ≡ area_after map.now area.old }
 {
     let list = list_at(words, 1);
-    let Part::Words { from, to } = list else {
+    let Some(Part { from, to }) = list else {
         return false;
     };
     let buffer = list_at(words, to);
-    let Part::Words {
-        from: start,
-        to: end,
-    } = buffer
+    let Some(
+        Part {
+            from: start,
+            to: end,
+        },
+    ) = buffer
     else {
         return false;
     };
@@ -170,7 +179,7 @@ pub fn same_port_lines(words: &[u16], map: &[u8], area: &mut [u16]) -> bool
     if words.len() < 2 {
         return false;
     }
-    let port = wide(words[1]);
+    let port = usize::from(words[1]);
     let answer = line::lines_at_port(map, area, port);
     let view = line::view_lines_at_port(map, area, port);
     is_port_answer(words, 2, answer, view)

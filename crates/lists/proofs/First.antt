@@ -5,8 +5,16 @@ use native.Mathlib.Decide.{ℕ_discrete, dec_lt}
 use native.Mathlib.Numerals.{add-one}
 use native.Mathlib.Omega.{arith}
 use mathlib.Core.Path.{◌≡◌, refl, sym, ap, ap₂, ◌∙◌, subst}
+use Rattle.std.specs.Prelude.{Option, Some, None}
 use mathlib.Core.Bool.{Bool, true, false, true≢false}
-use Rattle.lists.specs.Found.{Found, absent, at, or_else, placed, first}
+use Rattle.lists.specs.Found.{Found, absent, at, or_else, placed, first, found_of}
+
+-- what a search returns tells its cases apart
+pub found_of_injective : (r s : Option ℕ) → found_of r ≡ found_of s → r ≡ s
+found_of_injective None None e = refl
+found_of_injective None (Some j) e = cc
+found_of_injective (Some i) None e = cc
+found_of_injective (Some i) (Some j) e = cc
 
 -- the first that passes
 pub record FirstOf (f : ℕ → Bool) (n i : ℕ) : Type 0 where

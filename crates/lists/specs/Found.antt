@@ -1,6 +1,6 @@
 -- Absence as a case of its own, and the one notion of "the first", which every refusal with a place uses.
 -- Rests on nothing but the kit's lists.
-use Rattle.std.specs.Prelude.{ℕ, zero, suc, Bool, true, false, List, [], ◌∷◌, eqb}
+use Rattle.std.specs.Prelude.{ℕ, zero, suc, Bool, true, false, List, [], ◌∷◌, Option, Some, None, eqb}
 
 pub data Found : Type 0 where
   absent : Found
@@ -39,6 +39,11 @@ front (x ∷ xs) = at x
 abbrev pub is_at : ℕ → Found → Bool
 is_at n absent = false
 is_at n (at m) = eqb m n
+
+-- what a search returns: the number that it found, or none
+abbrev pub found_of : Option ℕ → Found
+found_of None = absent
+found_of (Some n) = at n
 
 -- a found number as a list of none or one
 abbrev pub listed : Found → List ℕ

@@ -6,4 +6,3 @@ pub mod Along
 pub mod Finding
 pub mod Searching
 pub mod Following
-pub mod Said

@@ -1,3 +1,2 @@
 pub mod Ends
 pub mod Line
-pub mod Said

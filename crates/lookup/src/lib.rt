@@ -6,27 +6,11 @@ pub mod guess;
 
 ghost use Rattle.std.specs.Prelude.{◌≡◌, ◌-◌, ◌<◌, true, length, nat_lt, slice_index};
 ghost use Rattle.lists.specs.Lists.{keep, member};
-ghost use Rattle.lists.specs.Found.{front};
+ghost use Rattle.lists.specs.Found.{found_of, front};
 ghost use Rattle.paper.specs.Lookup.{lookup};
 ghost use Rattle.lookup.specs.Line.{Bracketed, Line, positions_on};
-ghost use Rattle.lookup.specs.Said.{index_said, next_said};
 
 use guess::guess;
-use words::field::wide;
-
-// What a lookup answers: the index at which a position stands on a line, or that it does not.
-#[derive(Clone, Copy)]
-pub enum Index {
-    At(usize),
-    Absent,
-}
-
-// What comes after a position on a line: the next node, or the line's end.
-#[derive(Clone, Copy)]
-pub enum Next {
-    Node(usize),
-    End,
-}
 
 // The position of a line's node at an index.
 pub fn position_at(nodes: &[u16], positions: &[u16], i: usize) -> usize
@@ -35,25 +19,26 @@ pub fn position_at(nodes: &[u16], positions: &[u16], i: usize) -> usize
     ensures value { result ≡ slice_index (positions_on nodes.now positions.now) i }
     ensures upper_bound { result < 65536 }
 {
-    wide(positions[wide(nodes[i])])
+    usize::from(positions[usize::from(nodes[i])])
 }
 
 // The index of a position that lies strictly between those of the line's ends (the loop of `find_index`). Once the ends are next to each
 // other nothing stands between them.
-fn find_between(nodes: &[u16], positions: &[u16], pos: usize) -> Index
+fn find_between(nodes: &[u16], positions: &[u16], pos: usize) -> Option<usize>
     requires line { Line nodes.now positions.now }
     requires bracketed { Bracketed nodes.now positions.now pos 0 (length nodes.now - 1) }
-    ensures { index_said result ≡ lookup (positions_on nodes.now positions.now) pos }
+    ensures { found_of result ≡ lookup (positions_on nodes.now positions.now) pos }
 {
     let mut low = 0;
     let mut high = nodes.len() - 1;
+    // Either end moves to the middle, so no range counts the turns.
     while low + 1 < high {
         let left = position_at(nodes, positions, low);
         let right = position_at(nodes, positions, high);
         let middle = guess(low, high, left, right, pos);
         let there = position_at(nodes, positions, middle);
         if there == pos {
-            return Index::At(middle);
+            return Some(middle);
         }
         if there < pos {
             low = middle;
@@ -61,47 +46,44 @@ fn find_between(nodes: &[u16], positions: &[u16], pos: usize) -> Index
             high = middle;
         }
     }
-    Index::Absent
+    None
 }
 
 // The index at which a position stands on a line.
-pub fn find_index(nodes: &[u16], positions: &[u16], pos: usize) -> Index
+pub fn find_index(nodes: &[u16], positions: &[u16], pos: usize) -> Option<usize>
     requires { Line nodes.now positions.now }
-    ensures { index_said result ≡ lookup (positions_on nodes.now positions.now) pos }
+    ensures { found_of result ≡ lookup (positions_on nodes.now positions.now) pos }
 {
-    if nodes.len() == 0 {
-        return Index::Absent;
+    if nodes.is_empty() {
+        return None;
     }
     let last = nodes.len() - 1;
     let left = position_at(nodes, positions, 0);
     let right = position_at(nodes, positions, last);
     if left == pos {
-        return Index::At(0);
+        return Some(0);
     }
     if right == pos {
-        return Index::At(last);
+        return Some(last);
     }
     if left > pos {
-        return Index::Absent;
+        return None;
     }
     if right < pos {
-        return Index::Absent;
+        return None;
     }
     find_between(nodes, positions, pos)
 }
 
 // The node after the one at a position that stands on the line.
-pub fn next_after(nodes: &[u16], positions: &[u16], pos: usize) -> Next
+pub fn next_after(nodes: &[u16], positions: &[u16], pos: usize) -> Option<usize>
     requires line { Line nodes.now positions.now }
     requires positions_value { member pos (positions_on nodes.now positions.now) ≡ true }
-    ensures { next_said result ≡ front (keep (λ v. nat_lt pos (slice_index positions.now v)) nodes.now) }
+    ensures { found_of result ≡ front (keep (λ v. nat_lt pos (slice_index positions.now v)) nodes.now) }
 {
-    let Index::At(i) = find_index(nodes, positions, pos) else {
-        return Next::End;
-    };
-    let next = i + 1;
+    let next = find_index(nodes, positions, pos)? + 1;
     if next < nodes.len() {
-        return Next::Node(wide(nodes[next]));
+        return Some(usize::from(nodes[next]));
     }
-    Next::End
+    None
 }

@@ -25,9 +25,9 @@ use Rattle.neighbours.proofs.Sorting.{starts_stand, sorted_stand, others_stand, 
 
 -- the links by a port of each, sorted into a room whose first ports stand
 module _ {b a : List ℕ} {s : Sizes} {at : Listing}
-    (roomy : Roomy b a s.nodes s.links s.ports at.firsts at.keys at.starts at.sorted)
+    (roomy : Roomy b a s at)
     (port : ℕ → ℕ) (low : (k : ℕ) → k < s.links → port k < s.ports) (last : at.end ≡ at.sorted + s.links)
-    {m : List ℕ} (e : m ≡ by_port a at.keys at.starts at.sorted (map port (upto s.links)) s.ports) where
+    {m : List ℕ} (e : m ≡ by_port a s at (map port (upto s.links))) where
   well : ReadWell b s.nodes s.links s.ports
   well = roomy.tabled.read
 
@@ -60,8 +60,11 @@ module _ {b a : List ℕ} {s : Sizes} {from : ℕ} (free : Free b a s from (outg
   source-low : (k : ℕ) → k < s.links → source_port b k < s.ports
   source-low k h = source-below free.read (sound b free.links) h
 
-  module _ {keys starts sorted : ℕ} (keys-at : keys ≡ from + (s.nodes + 1)) (starts_at : starts ≡ keys + s.links)
-      (sorted_at : sorted ≡ starts + (s.ports + 1)) {a₁ : List ℕ} (e₁ : a₁ ≡ sets a from (map (first_port b) (upto (s.nodes + 1)))) where
+  module _ {keys starts sorted end : ℕ} (keys-at : keys ≡ from + (s.nodes + 1)) (starts_at : starts ≡ keys + s.links)
+      (sorted_at : sorted ≡ starts + (s.ports + 1)) (end-at : end ≡ sorted + s.links) {a₁ : List ℕ} (e₁ : a₁ ≡ sets a from (map (first_port b) (upto (s.nodes + 1)))) where
+    abbrev out : Listing
+    out = record { firsts = from; keys = keys; starts = starts; sorted = sorted; end = end }
+
     long₁ : length a₁ ≡ length a
     long₁ = ap length e₁ ∙ length-sets a from (map (first_port b) (upto (s.nodes + 1)))
 
@@ -74,7 +77,7 @@ module _ {b a : List ℕ} {s : Sizes} {from : ℕ} (free : Free b a s from (outg
         ∙ ap (part (sets a from (map (first_port b) (upto (s.nodes + 1)))) from) (sym many)
         ∙ part-sets_in a from (map (first_port b) (upto (s.nodes + 1))) 0 (omega (arith, many, free.room))
 
-    pub roomy-out : Roomy b a₁ s.nodes s.links s.ports from keys starts sorted
+    pub roomy-out : Roomy b a₁ s out
     roomy-out =
         record {
           tabled =
@@ -90,8 +93,8 @@ module _ {b a : List ℕ} {s : Sizes} {from : ℕ} (free : Free b a s from (outg
           room = omega (arith, long₁, free.room, keys-at, starts_at, sorted_at);
         }
 
-    module _ {end : ℕ} (end-at : end ≡ sorted + s.links) {a₂ : List ℕ} (e₂ : a₂ ≡ by_port a₁ keys starts sorted (map (source_port b) (upto s.links)) s.ports) where
-      pub outgoing-laid : OutgoingLaid b a s from (record { firsts = from; keys = keys; starts = starts; sorted = sorted; end = end }) a₂
+    module _ {a₂ : List ℕ} (e₂ : a₂ ≡ by_port a₁ s out (map (source_port b) (upto s.links))) where
+      pub outgoing-laid : OutgoingLaid b a s from out a₂
       unfolding with_outgoing
       outgoing-laid =
           record {
@@ -104,15 +107,18 @@ module _ {b a : List ℕ} {s : Sizes} {from : ℕ} (free : Free b a s from (outg
                 (within-sets within_none from (map (first_port b) (upto (s.nodes + 1))) (omega arith) (omega (arith, many))))
                 (only_here roomy-out (source_port b) source-low e₂ from (outgoing_size s) (omega (arith, keys-at))
                 (omega (arith, keys-at, starts_at, sorted_at)));
-            whole = e₂ ∙ ap (λ (m : List ℕ). by_port m keys starts sorted (map (source_port b) (upto s.links)) s.ports) e₁;
+            whole = e₂ ∙ ap (λ (m : List ℕ). by_port m s out (map (source_port b) (upto s.links))) e₁;
           }
 
 module _ {b a : List ℕ} {s : Sizes} {out : Listing} (outgoing : Outgoing b a s out) (room : out.end + incoming_size s ≤ length a) where
   target-low : (k : ℕ) → k < s.links → target_port b k < s.ports
   target-low k h = target_below outgoing.read (sound b outgoing.links) h
 
-  module _ {sorted : ℕ} (sorted_at : sorted ≡ out.end + (s.ports + 1)) where
-    pub roomy_in : Roomy b a s.nodes s.links s.ports out.firsts out.keys out.end sorted
+  module _ {sorted end : ℕ} (sorted_at : sorted ≡ out.end + (s.ports + 1)) (end-at : end ≡ sorted + s.links) where
+    abbrev back : Listing
+    back = record { firsts = out.firsts; keys = out.keys; starts = out.end; sorted = sorted; end = end }
+
+    roomy_in : Roomy b a s back
     roomy_in =
         record {
           tabled =
@@ -128,14 +134,14 @@ module _ {b a : List ℕ} {s : Sizes} {out : Listing} (outgoing : Outgoing b a s
           room = omega (arith, room, sorted_at);
         }
 
-    module _ {end : ℕ} (end-at : end ≡ sorted + s.links) {m : List ℕ} (e : m ≡ by_port a out.keys out.end sorted (map (target_port b) (upto s.links)) s.ports) where
+    module _ {m : List ℕ} (e : m ≡ by_port a s back (map (target_port b) (upto s.links))) where
       kept : (from size : ℕ) → from ≤ out.keys → end ≤ from + size → Within from size a m
       kept from size low high = only_here roomy_in (target_port b) target-low e from size low (omega (arith, end-at))
 
       stands : (place many : ℕ) → Disjoint place many out.keys s.links → place + many ≤ out.end → part m place many ≡ part a place many
       stands place many off high = others_stand roomy_in (target_port b) target-low e place many off (inl high) (omega (arith, outgoing.room))
 
-      pub incoming-laid : IncomingLaid b a s out (record { firsts = out.firsts; keys = out.keys; starts = out.end; sorted = sorted; end = end }) m
+      pub incoming-laid : IncomingLaid b a s out back m
       incoming-laid =
           record {
             outgoing =

@@ -15,6 +15,8 @@ use Rattle.paper.specs.Map.{N, L, P, ins, outs, first_port, input, output, link_
 use Rattle.order_theory.specs.Sound.{Sound}
 use Rattle.order_theory.proofs.Ports.{ports-end}
 use Rattle.stepmap.specs.Formed.{HasLink, ReadWell}
+use Rattle.stepmap.specs.declared.read.Sizes.{Sizes}
+use Rattle.neighbours.specs.declared.Listing.{Listing}
 use Rattle.neighbours.specs.Tabled.{Tabled}
 
 -- a port of a known node is below P
@@ -54,31 +56,28 @@ module _ {b : List ℕ} {n l p : ℕ} (read : ReadWell b n l p) (s : Sound b) {k
       omega
       (arith, read.ports, port-below b (link_to b k) (link_in b k) (s.target k known) (omega (arith, s.inlet k known)))
 
-module _ {b a : List ℕ} {n l p firsts keys : ℕ} (ready : Tabled b a n l p firsts keys) (f : ℕ → ℕ) where
-  pub as_long : {area : List ℕ} (k : ℕ) → area ≡ sets a keys (map f (upto k)) → length area ≡ length a
-  as_long k now = ap length now ∙ length-sets a keys (map f (upto k))
+module _ {b a : List ℕ} {s : Sizes} {at : Listing} (ready : Tabled b a s at) (f : ℕ → ℕ) where
+  as_long : {area : List ℕ} (k : ℕ) → area ≡ sets a at.keys (map f (upto k)) → length area ≡ length a
+  as_long k now = ap length now ∙ length-sets a at.keys (map f (upto k))
 
-  module _ {area : List ℕ} {k : ℕ} (k<l : k < l) (now : area ≡ sets a keys (map f (upto k))) where
-    pub key_inside : keys + k < length area
-    key_inside = omega (arith, as_long k now, ready.room)
-
-    pub first-inside : {v : ℕ} → v < n → firsts + v < length area
+  module _ {area : List ℕ} {k : ℕ} (k<l : k < s.links) (now : area ≡ sets a at.keys (map f (upto k))) where
+    pub first-inside : {v : ℕ} → v < s.nodes → at.firsts + v < length area
     first-inside h = omega (arith, as_long k now, ready.apart, ready.room)
 
-    pub first-stands : {v : ℕ} → v < n → get_or area (firsts + v) 0 ≡ first_port b v
+    pub first-stands : {v : ℕ} → v < s.nodes → get_or area (at.firsts + v) 0 ≡ first_port b v
     first-stands {v} h =
-        ap (λ (m : List ℕ). get_or m (firsts + v) 0) now
-        ∙ get_or-sets-out a keys (map f (upto k)) (firsts + v) 0 (inl (omega (arith, ready.apart)))
-        ∙ sym (get_d_part a firsts (n + 1) v 0 (omega arith))
+        ap (λ (m : List ℕ). get_or m (at.firsts + v) 0) now
+        ∙ get_or-sets-out a at.keys (map f (upto k)) (at.firsts + v) 0 (inl (omega (arith, ready.apart)))
+        ∙ sym (get_d_part a at.firsts (s.nodes + 1) v 0 (omega arith))
         ∙ ap (λ (m : List ℕ). get_or m v 0) ready.table
-        ∙ get_or-table (first_port b) (n + 1) v 0 (omega arith)
+        ∙ get_or-table (first_port b) (s.nodes + 1) v 0 (omega arith)
 
-    pub one_more : {x : ℕ} → x ≡ f k → set area (keys + k) x ≡ sets a keys (map f (upto (k + 1)))
+    pub one_more : {x : ℕ} → x ≡ f k → set area (at.keys + k) x ≡ sets a at.keys (map f (upto (k + 1)))
     one_more {x} e =
-        sets-next a keys (map f (upto k)) (x ∷ []) now (length-table f k)
-        ∙ ap (λ (y : ℕ). sets a keys (map f (upto k) ++ (y ∷ []))) e
-        ∙ ap (sets a keys) (sym (table-suc f k))
-        ∙ ap (λ (m : ℕ). sets a keys (map f (upto m))) (sym (add-one k))
+        sets-next a at.keys (map f (upto k)) (x ∷ []) now (length-table f k)
+        ∙ ap (λ (y : ℕ). sets a at.keys (map f (upto k) ++ (y ∷ []))) e
+        ∙ ap (sets a at.keys) (sym (table-suc f k))
+        ∙ ap (λ (m : ℕ). sets a at.keys (map f (upto m))) (sym (add-one k))
 
 -- the key of a link, from what is read
 module _ (b : List ℕ) (k : ℕ) {v w : ℕ} where

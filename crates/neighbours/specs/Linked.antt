@@ -68,8 +68,8 @@ pub record Free (b a : List ℕ) (s : Sizes) (from size : ℕ) : Type 0 where
 -- the area with the first ports, and behind them the links by output port
 unfoldable pub with_outgoing : List ℕ → List ℕ → Sizes → Listing → List ℕ
 with_outgoing b a s at =
-    by_port (sets a at.firsts (map (first_port b) (upto (s.nodes + 1)))) at.keys at.starts at.sorted
-    (map (source_port b) (upto s.links)) s.ports
+    by_port (sets a at.firsts (map (first_port b) (upto (s.nodes + 1)))) s at
+    (map (source_port b) (upto s.links))
 
 -- they are laid from `from` on, and no other word was written
 pub record OutgoingLaid (b a : List ℕ) (s : Sizes) (from : ℕ) (at : Listing) (m : List ℕ) : Type 0 where

@@ -29,14 +29,14 @@ pub struct Listing {
     pub end: usize,
 }
 
-// Writes the first ports of the n nodes, and their number, to the section at `firsts`.
-pub fn first_ports_at(b: &[u8], n: usize, area: &mut [u16], firsts: usize)
-    requires numbered { Numbered b.now n }
-    requires n_in_bounds { firsts + (n + 1) ≤ length area.old }
-    ensures { area.new ≡ sets area.old firsts (map (first_port b.now) (upto (n + 1))) }
+// Writes the first ports of the nodes, and their number, to the section at `firsts`.
+pub fn first_ports_at(b: &[u8], sizes: Sizes, area: &mut [u16], firsts: usize)
+    requires numbered { Numbered b.now sizes.nodes }
+    requires n_in_bounds { firsts + (sizes.nodes + 1) ≤ length area.old }
+    ensures { area.new ≡ sets area.old firsts (map (first_port b.now) (upto (sizes.nodes + 1))) }
 {
-    let end = firsts + (n + 1);
-    first_ports(b, n, &mut area[firsts..end]);
+    let end = firsts + (sizes.nodes + 1);
+    first_ports(b, sizes.nodes, &mut area[firsts..end]);
 }
 
 // Lays the first ports and the links by output port from `from` on.
@@ -44,22 +44,20 @@ pub fn lay_outgoing(b: &[u8], sizes: Sizes, area: &mut [u16], from: usize) -> Li
     requires { Free b.now area.old sizes from (outgoing_size sizes) }
     ensures { OutgoingLaid b.now area.old sizes from result area.new }
 {
-    let n = sizes.nodes;
-    let l = sizes.links;
-    let p = sizes.ports;
-    let keys = from + (n + 1);
-    let starts = keys + l;
-    let sorted = starts + (p + 1);
-    let end = sorted + l;
-    first_ports_at(b, n, area, from);
-    links_by_output(b, n, l, p, area, from, keys, starts, sorted);
-    Listing {
+    let keys = from + (sizes.nodes + 1);
+    let starts = keys + sizes.links;
+    let sorted = starts + (sizes.ports + 1);
+    let end = sorted + sizes.links;
+    let at = Listing {
         firsts: from,
         keys,
         starts,
         sorted,
         end,
-    }
+    };
+    first_ports_at(b, sizes, area, at.firsts);
+    links_by_output(b, sizes, area, at);
+    at
 }
 
 // Lays the links by input port behind those by output port, with the same first ports, and with keys in the same place.
@@ -68,22 +66,18 @@ pub fn lay_incoming(b: &[u8], sizes: Sizes, area: &mut [u16], out: Listing) -> L
     requires sizes_in_bounds { out.end + incoming_size sizes ≤ length area.old }
     ensures { IncomingLaid b.now area.old sizes out result area.new }
 {
-    let n = sizes.nodes;
-    let l = sizes.links;
-    let p = sizes.ports;
-    let firsts = out.firsts;
-    let keys = out.keys;
     let starts = out.end;
-    let sorted = starts + (p + 1);
-    let end = sorted + l;
-    links_by_input(b, n, l, p, area, firsts, keys, starts, sorted);
-    Listing {
-        firsts,
-        keys,
+    let sorted = starts + (sizes.ports + 1);
+    let end = sorted + sizes.links;
+    let back = Listing {
+        firsts: out.firsts,
+        keys: out.keys,
         starts,
         sorted,
         end,
-    }
+    };
+    links_by_input(b, sizes, area, back);
+    back
 }
 
 // Where the links out of node v start among those by output port; those of the node before it end there.

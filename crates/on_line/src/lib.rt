@@ -2,18 +2,18 @@
 #![tactic(auto)]
 
 ghost use Rattle.std.specs.Prelude.{◌≡◌, true};
+ghost use Rattle.lists.specs.Found.{found_of};
 ghost use Rattle.lists.specs.Lists.{member};
 ghost use Rattle.paper.specs.Lookup.{lookup};
-ghost use Rattle.lookup.specs.Said.{index_said, next_said};
 ghost use Rattle.on_line.specs.Along.{LineAt, positions_along, next_along};
 
-use lookup::{Index, Next, find_index, next_after};
+use lookup::{find_index, next_after};
 use tables::{Layout, entries};
 
 // The index at which a position stands on line x.
-pub fn index_on(area: &[u16], at: Layout, x: usize, pos: usize) -> Index
+pub fn index_on(area: &[u16], at: Layout, x: usize, pos: usize) -> Option<usize>
     requires { LineAt area.now at x }
-    ensures { index_said result ≡ lookup (positions_along area.now at x) pos }
+    ensures { found_of result ≡ lookup (positions_along area.now at x) pos }
 {
     let nodes = entries(area, at.starts, at.along, x);
     let first = at.positions;
@@ -22,10 +22,10 @@ pub fn index_on(area: &[u16], at: Layout, x: usize, pos: usize) -> Index
 }
 
 // The node that comes after the one at a position on line x.
-pub fn next_on(area: &[u16], at: Layout, x: usize, pos: usize) -> Next
+pub fn next_on(area: &[u16], at: Layout, x: usize, pos: usize) -> Option<usize>
     requires line_at { LineAt area.now at x }
     requires x_value { member pos (positions_along area.now at x) ≡ true }
-    ensures { next_said result ≡ next_along area.now at x pos }
+    ensures { found_of result ≡ next_along area.now at x pos }
 {
     let nodes = entries(area, at.starts, at.along, x);
     let first = at.positions;

@@ -1,8 +1,8 @@
 -- What is left of a map that passes 1 and 2, and of any map, put together from the rules' answers.
--- Rests on toposort's Refusing, refusals' Answers, tables' Placed and paper's Area.
+-- Rests on toposort's Refusing, tables' Placed and paper's Area.
 use Prim.Native.Nat.{ℕ, ◌-◌, ◌≤◌, ◌<◌}
 use native.Mathlib.Omega.{arith}
-use mathlib.Core.Path.{◌≡◌, refl, sym, ap, ap₂, ◌∙◌, subst}
+use mathlib.Core.Path.{◌≡◌, sym, ap, ap₂, ◌∙◌, subst}
 use mathlib.Core.Bool.{Bool, true, false, not}
 use mathlib.Core.List.{List, [], ◌∷◌}
 use borrow.Author.Tests.{lt-ltb, le-ltb}
@@ -15,10 +15,10 @@ use Rattle.paper.specs.Calls.{untouched, area_after, opening}
 use Rattle.paper.specs.Refusals.{Ruling, passed, refusal, refuse, Answer, answer, on_refusal, refused, answered, decide, rule1, rule2, rule3, rule45, rule7}
 use Rattle.paper.proofs.Area.{W-sum}
 use Rattle.lines_theory.proofs.Written.{start_is_lem}
-use Rattle.refusals.specs.Said.{ruled, refused_by}
+use Rattle.std.specs.Prelude.{Result, Err}
+use Rattle.refusals.specs.Said.{ruled, refused_by, answer_of}
 use Rattle.refusals.specs.declared.Refusal.{Refusal}
 use Rattle.refusals.specs.declared.Refusal.TheVariants.{NoRoom}
-use Rattle.refusals.proofs.Answers.{meant, meant_back}
 use Rattle.stepmap.specs.Formed.{ReadWell}
 use Rattle.stepmap.specs.declared.read.Sizes.{Sizes}
 use Rattle.tables.specs.Placed.{LaidOut, Placed}
@@ -26,9 +26,7 @@ use Rattle.tables.specs.declared.Layout.{Layout}
 use Rattle.tables.proofs.Placed.{places}
 use Rattle.acceptance.specs.Testable.{Testable}
 use Rattle.toposort.proofs.Refusing.{refused_said, passed-said, passed-kept, refused_kept, next, here, alone, after, before}
-use Rattle.opening.specs.declared.Opened.{Opened}
-use Rattle.opening.specs.declared.Opened.TheVariants.{Ready, Refused}
-use Rattle.opening.specs.Opened.{Laid, Roomy, PlacedLeft, OpenLeft, layout_of, opened_said, scratch_zeroed}
+use Rattle.opening.specs.Opened.{Laid, Roomy, PlacedLeft, OpenLeft, layout_of, scratch_zeroed}
 
 -- ---- where the sections stand
 
@@ -103,10 +101,10 @@ module _ {b : List ℕ} {at : Layout} (known : Laid b at) (a : List ℕ) where
       → x ≡ answer (decide (rule3 b a ∷ rule45 b ∷ rule7 b a ∷ [])) at
   room-said h e = e ∙ ap (λ (u : Ruling). answer u at) (next (roomy h) (rule45 b ∷ rule7 b a ∷ []))
 
-  pub no_room : {m : List ℕ} → length a < at.end → m ≡ a → PlacedLeft b a at (Refused NoRoom) m
+  pub no_room : {m : List ℕ} → length a < at.end → m ≡ a → PlacedLeft b a at (Err NoRoom) m
   no_room h e = record { said = no_room-said h; left = refused_kept (short h) (scratch_zeroed a at) e }
 
-  pub room : {r : Opened} {m : List ℕ} → at.end ≤ length a → opened_said r ≡ answer (decide (rule45 b ∷ rule7 b a ∷ [])) at
+  pub room : {r : Result Layout Refusal} {m : List ℕ} → at.end ≤ length a → answer_of r ≡ answer (decide (rule45 b ∷ rule7 b a ∷ [])) at
       → m ≡ scratch_zeroed a at → PlacedLeft b a at r m
   room h e f = record { said = room-said h e; left = passed-kept (roomy h) a f }
 
@@ -119,7 +117,7 @@ module _ (b a : List ℕ) where
     unfolding opening untouched
     unread_said = refused_said (before (rule1 b ∷ rule2 b ∷ []) (rule3 b a ∷ rule45 b ∷ rule7 b a ∷ []) first_two) (layout_of b)
 
-    pub unread : {m : List ℕ} → m ≡ a → OpenLeft b a (Refused x) m
+    pub unread : {m : List ℕ} → m ≡ a → OpenLeft b a (Err x) m
     unfolding area_after untouched
     unread f =
         record {
@@ -136,7 +134,7 @@ module _ (b a : List ℕ) where
         e ∙ ap (answer (decide (rule3 b a ∷ rule45 b ∷ rule7 b a ∷ []))) (layout_is known)
         ∙ ap (λ (u : Ruling). answer u (layout_of b)) (after (rule1 b ∷ rule2 b ∷ []) (rule3 b a ∷ rule45 b ∷ rule7 b a ∷ []) d)
 
-    pub placed-left : {r : Opened} {m : List ℕ} → PlacedLeft b a at r m → OpenLeft b a r m
+    pub placed-left : {r : Result Layout Refusal} {m : List ℕ} → PlacedLeft b a at r m → OpenLeft b a r m
     unfolding area_after untouched
     placed-left was =
         record {
@@ -145,17 +143,3 @@ module _ (b a : List ℕ) where
               was.left ∙ ap (λ (z : List ℕ). on_refusal (rule3 b a) a z) (zeroed_is known.placed a)
               ∙ ap (λ (u : Ruling). on_refusal u a (scratch_cleared b a)) (alone (rule3 b a) ∙ after (rule1 b ∷ rule2 b ∷ []) (rule3 b a ∷ []) d);
         }
-
--- ---- each answer's meaning tells its cases apart
-
-meant_opened : Answer Layout → Opened
-meant_opened (answered at) = Ready at
-meant_opened (refused i v) = Refused (meant (refusal i v))
-
-opened_back : (r : Opened) → meant_opened (opened_said r) ≡ r
-unfolding meant_opened
-opened_back (Ready at) = refl
-opened_back (Refused x) = ap (λ (y : Refusal). Refused y) (meant_back x)
-
-pub opened_said_injective : (r s : Opened) → opened_said r ≡ opened_said s → r ≡ s
-opened_said_injective r s e = sym (opened_back r) ∙ ap meant_opened e ∙ opened_back s

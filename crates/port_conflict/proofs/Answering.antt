@@ -1,10 +1,10 @@
 -- The answer on two lists of ports: 14 from marking them, and else whether the first links meet.
--- Rests on Conflict, Passing, Said and tables' Within.
+-- Rests on Conflict, Passing and tables' Within.
 use Prim.Native.Nat.{ℕ, ◌+◌, ◌≤◌, ◌<◌}
 use native.Mathlib.Omega.{arith}
-use mathlib.Core.Path.{◌≡◌, sym, ap, ap₂, ◌∙◌, subst}
+use mathlib.Core.Path.{◌≡◌, sym, ap, ◌∙◌, subst}
 use mathlib.Core.Logic.{inr}
-use mathlib.Core.Bool.{Bool, false}
+use mathlib.Core.Bool.{Bool}
 use mathlib.Core.List.{List, [], ◌∷◌, map}
 use lib.ListN.{length, get_or}
 use lib.Seq.{sets}
@@ -15,7 +15,7 @@ use Rattle.lists.proofs.Upto.{length-table, get_or-table}
 use Rattle.paper.specs.Map.{first_port}
 use Rattle.paper.specs.Calls.{port_rules}
 use Rattle.paper.specs.Ports.{conflict}
-use Rattle.paper.specs.Refusals.{Ruling, passed, refusal, Answer, answered, answer, decide, rule14}
+use Rattle.paper.specs.Refusals.{Ruling, passed, refusal, refused, answered, answer, decide, rule14}
 use Rattle.order_theory.proofs.Refusals.{sound}
 use Rattle.neighbours.proofs.Writing.{source-below, target_below}
 use Rattle.tables.specs.declared.Layout.{Layout}
@@ -25,16 +25,12 @@ use Rattle.tables.specs.Usable.{Usable, Scratched}
 use Rattle.tables.specs.Within.{Within}
 use Rattle.tables.proofs.Usable.{still_usable}
 use Rattle.tables.proofs.Within.{within_none, within_both, within-sets, within_wider}
-use Rattle.port_conflict.specs.declared.PortsFound.{PortsFound}
-use Rattle.port_conflict.specs.declared.PortsFound.TheVariants.{Clear}
 use Rattle.port_conflict.specs.declared.room.PortRoom.{PortRoom}
 use Rattle.port_conflict.specs.FirstLinks.{meets}
 use Rattle.port_conflict.specs.Marks.{marked, unknown_port, ListsMarked, Laid, LinksPassed}
 use Rattle.port_conflict.specs.Room.{Fits}
-use Rattle.port_conflict.specs.Said.{ports_said, after_marks, LinksLooked}
 use Rattle.port_conflict.proofs.Conflict.{conflict_by_links}
 use Rattle.port_conflict.proofs.Passing.{meets-same}
-use Rattle.port_conflict.proofs.Said.{known_refused, known-clear}
 use Rattle.port_conflict.proofs.Written.{marked-outside}
 
 -- ---- tests that agree on all ports agree on all links
@@ -48,6 +44,11 @@ module _ {b a : List ℕ} {at : Layout} (usable : Usable b a at) (f g f' g' : �
       (target_below usable.read (sound b usable.links) h) fs gs)
 
 -- ---- the ports are marked: the first ports are written, and the links held against the marks
+
+-- the links held against the marks that stand
+pub record LinksLooked (b a m : List ℕ) (at : Layout) (room : PortRoom) (met : Bool) : Type 0 where
+  pub says : met ≡ any (meets b (marked a room.inputs) (marked a room.outputs)) (upto at.sizes.links)
+  pub kept : Scratched at a m
 
 module _ {b a : List ℕ} {at : Layout} {room : PortRoom} (usable : Usable b a at) (fits : Fits at room) where
   abbrev table : List ℕ
@@ -79,41 +80,43 @@ module _ {b a : List ℕ} {at : Layout} {room : PortRoom} (usable : Usable b a a
     marks_still marks behind q = marked-outside firsts-kept marks q (inr (omega arith))
 
     module _ {o : List ℕ} {met : Bool} (passing : LinksPassed b m o at room met) where
-      pub looked : {known : PortsFound} → known ≡ Clear → {r : Bool} → met ≡ r → LinksLooked b a o at room known (answered r)
-      looked clear e =
+      pub looked : LinksLooked b a o at room met
+      looked =
           record {
             says =
-                ap answered
-                (sym e ∙ passing.says
+                passing.says
                 ∙ links-same usable (marked m room.inputs) (marked m room.outputs) (marked a room.inputs) (marked a room.outputs)
-                (λ q h. marks_still room.inputs (omega arith) q) (λ q h. marks_still room.outputs (omega arith) q))
-                ∙ sym (ap (λ (x : PortsFound). after_marks x (any (meets b (marked a room.inputs) (marked a room.outputs)) (upto at.sizes.links))) clear);
+                (λ q h. marks_still room.inputs (omega arith) q) (λ q h. marks_still room.outputs (omega arith) q);
             kept = within_both scratch-kept (within_wider passing.kept at.scratch (scratch_size at.sizes) (omega arith) (omega arith));
           }
 
 -- ---- the answer
 
-module _ {b a m o inputs outputs : List ℕ} {at : Layout} {room : PortRoom} {known : PortsFound} {said : Answer Bool} (usable : Usable b a at)
-    (marks : ListsMarked at room a m inputs outputs (ports_said known)) (looks : LinksLooked b m o at room known said) where
-  rules_are : decide (unknown_port at.sizes.ports inputs ∷ unknown_port at.sizes.ports outputs ∷ []) ≡ decide (port_rules b inputs outputs)
+module _ {b a m inputs outputs : List ℕ} {at : Layout} {room : PortRoom} {said : Ruling} (usable : Usable b a at)
+    (marks : ListsMarked at room a m inputs outputs said) where
+  marks_say : said ≡ decide (port_rules b inputs outputs)
   unfolding port_rules rule14
-  rules_are = ap (λ (p : ℕ). decide (unknown_port p inputs ∷ unknown_port p outputs ∷ [])) (sym usable.read.ports)
+  marks_say = marks.says ∙ ap (λ (p : ℕ). decide (unknown_port p inputs ∷ unknown_port p outputs ∷ [])) (sym usable.read.ports)
 
-  marks_say : ports_said known ≡ answer (decide (port_rules b inputs outputs)) false
-  marks_say = marks.says ∙ ap (λ (r : Ruling). answer r false) rules_are
-
-  met-is : ports_said known ≡ answered false
-      → any (meets b (marked m room.inputs) (marked m room.outputs)) (upto at.sizes.links) ≡ conflict b inputs outputs
-  met-is clear =
-      links-same usable (marked m room.inputs) (marked m room.outputs) (λ q. member q inputs) (λ q. member q outputs)
-      (marks.inputs_stand clear) (marks.outputs_stand clear)
-      ∙ ap (λ (j : ℕ). any (meets b (λ q. member q inputs) (λ q. member q outputs)) (upto j)) (sym usable.read.links)
-      ∙ sym (conflict_by_links b inputs outputs)
-
-  says_so : (r : Ruling) → ports_said known ≡ answer r false → said ≡ answer r (conflict b inputs outputs)
+  -- an unknown port
+  pub unknown_answered : {n place : ℕ} → said ≡ refusal n place → (met : Bool) → Answered at a m (refused n place) (port_rules b inputs outputs) met
   unfolding answer
-  says_so passed clear = looks.says ∙ ap₂ after_marks (known-clear known clear) (met-is clear)
-  says_so (refusal n place) e = looks.says ∙ known_refused known _ e
+  unknown_answered e met = record { says = ap (λ (r : Ruling). answer r met) (sym e ∙ marks_say); kept = marks.kept }
 
-  pub answers : Answered at a o said (port_rules b inputs outputs) (conflict b inputs outputs)
-  answers = record { says = says_so (decide (port_rules b inputs outputs)) marks_say; kept = within_both marks.kept looks.kept }
+  -- all are known, and the links are looked at
+  module _ (known : said ≡ passed) {o : List ℕ} {met : Bool} (looks : LinksLooked b m o at room met) where
+    met-is : met ≡ conflict b inputs outputs
+    met-is =
+        looks.says
+        ∙ links-same usable (marked m room.inputs) (marked m room.outputs) (λ q. member q inputs) (λ q. member q outputs)
+        (marks.inputs_stand known) (marks.outputs_stand known)
+        ∙ ap (λ (j : ℕ). any (meets b (λ q. member q inputs) (λ q. member q outputs)) (upto j)) (sym usable.read.links)
+        ∙ sym (conflict_by_links b inputs outputs)
+
+    pub answers : Answered at a o (answered met) (port_rules b inputs outputs) (conflict b inputs outputs)
+    unfolding answer
+    answers =
+        record {
+          says = ap answered met-is ∙ ap (λ (r : Ruling). answer r (conflict b inputs outputs)) (sym known ∙ marks_say);
+          kept = within_both marks.kept looks.kept;
+        }

@@ -2,8 +2,8 @@
 -- Rests on Written, neighbours' Writing and order_theory's Refusals.
 use Prim.Native.Nat.{ℕ, ◌+◌, ◌*◌, ◌≤◌, ◌<◌}
 use native.Mathlib.Omega.{arith}
-use mathlib.Core.Path.{◌≡◌, refl, sym, ap, ap₂, ◌∙◌}
-use mathlib.Core.Bool.{Bool, true, false, ◌&&◌, ◌||◌, or-true}
+use mathlib.Core.Path.{◌≡◌, sym, ap, ap₂, ◌∙◌}
+use mathlib.Core.Bool.{Bool, false, ◌&&◌, ◌||◌}
 use mathlib.Core.List.{List}
 use lib.Dec.{eqb}
 use lib.ListN.{length, get_or, set}
@@ -99,8 +99,8 @@ module _ {b a : List ℕ} {at : Layout} {room : PortRoom} {k : ℕ} (laid : Laid
 -- ---- what the marks at them say
 
 module _ (a : List ℕ) (room : PortRoom) (q other : ℕ) {w : ℕ} (read : w ≡ get_or a (room.outputs + q) 0) where
-  pub leads_nowhere : (w ≡ 1 → ⊥) → false ≡ leads (marked a room.inputs) (marked a room.outputs) q other
-  leads_nowhere off = sym (ap (λ (c : Bool). c && marked a room.inputs other) (sym (mark-read a room.outputs q read) ∙ ne_eqb w 1 off))
+  pub leads_nowhere : (w ≡ 1 → ⊥) → eqb w 1 ≡ leads (marked a room.inputs) (marked a room.outputs) q other
+  leads_nowhere off = ne_eqb w 1 off ∙ sym (ap (λ (c : Bool). c && marked a room.inputs other) (sym (mark-read a room.outputs q read) ∙ ne_eqb w 1 off))
 
   pub leads_by : {x : ℕ} → w ≡ 1 → x ≡ get_or a (room.inputs + other) 0
       → eqb x 1 ≡ leads (marked a room.inputs) (marked a room.outputs) q other
@@ -108,37 +108,15 @@ module _ (a : List ℕ) (room : PortRoom) (q other : ℕ) {w : ℕ} (read : w �
       mark-read a room.inputs other then
       ∙ sym (ap (λ (c : Bool). c && marked a room.inputs other) (sym (mark-read a room.outputs q read) ∙ eq-eqb w 1 on))
 
+-- .. and where they lead to no input, the marks among the outputs are taken back
 module _ (b a : List ℕ) (room : PortRoom) (k : ℕ) {s t : ℕ} (source : s ≡ source_port b k) (target : t ≡ target_port b k) where
   abbrev pub leads_now : ℕ → ℕ → Bool
   leads_now = leads (marked a room.inputs) (marked a room.outputs)
-
-  here : leads_now s t ≡ leads_now (source_port b k) (target_port b k)
-  here = ap₂ leads_now source target
-
-  there : leads_now t s ≡ leads_now (target_port b k) (source_port b k)
-  there = ap₂ leads_now target source
-
-  pub meets-forward : {r : Bool} → r ≡ leads_now s t → r ≡ true → LinkPassed b a a room k true
-  meets-forward says e =
-      record {
-        says = sym (ap (λ (c : Bool). c || leads_now (target_port b k) (source_port b k)) (sym here ∙ sym says ∙ e));
-        left = refl;
-      }
-
-  pub meets_backward : {r : Bool} → r ≡ leads_now t s → r ≡ true → LinkPassed b a a room k true
-  meets_backward says e =
-      record {
-        says =
-            sym
-            (ap (λ (c : Bool). leads_now (source_port b k) (target_port b k) || c) (sym there ∙ sym says ∙ e)
-            ∙ or-true (leads_now (source_port b k) (target_port b k)));
-        left = refl;
-      }
 
   pub meets_not : {r r' : Bool} → r ≡ leads_now s t → r ≡ false → r' ≡ leads_now t s → r' ≡ false
       → LinkPassed b a (set (set a (room.outputs + s) 0) (room.outputs + t) 0) room k false
   meets_not says e says' e' =
       record {
-        says = sym (ap₂ ◌||◌ (sym here ∙ sym says ∙ e) (sym there ∙ sym says' ∙ e'));
+        says = sym (ap₂ ◌||◌ (sym (ap₂ leads_now source target) ∙ sym says ∙ e) (sym (ap₂ leads_now target source) ∙ sym says' ∙ e'));
         left = ap₂ (λ (x y : ℕ). set (set a (room.outputs + x) 0) (room.outputs + y) 0) source target;
       }

@@ -4,5 +4,4 @@ pub mod Marking
 pub mod Both
 pub mod Ends
 pub mod Passing
-pub mod Said
 pub mod Answering

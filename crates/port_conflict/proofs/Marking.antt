@@ -12,11 +12,12 @@ use lib.ListN.{length, get_or, set, take, replicate, length-replicate}
 use lib.Seq.{sets, take-suc, take_all}
 use borrow.Author.Tests.{ltb-true, ltb-false, lt-leb, le-leb, eq-eqb, ne_eqb, not-false, not-true}
 use Rattle.lists.specs.Lists.{member}
-use Rattle.lists.specs.Found.{Found, absent, at, first}
+use Rattle.lists.specs.Found.{absent, at, first}
 use Rattle.lists.proofs.First.{first-is, first_next, first_absent}
 use Rattle.lists.proofs.Sections.{get_or-sets_in}
 use Rattle.lists.proofs.Upto.{get_or-zeros, at_the_end}
-use Rattle.paper.specs.Refusals.{refused, answered, answer, refuse, earliest}
+use Rattle.paper.specs.Refusals.{passed, refusal, refuse, earliest}
+use Rattle.refusals.proofs.Rulings.{no_refusal}
 use Rattle.tables.specs.Within.{Within}
 use Rattle.tables.proofs.Within.{within_none, within_both, within-set, within-sets}
 use Rattle.walk_theory.proofs.Join.{member_snoc}
@@ -25,7 +26,6 @@ use Rattle.port_conflict.proofs.Written.{marked-here, marked_elsewhere}
 
 -- what holds after i entries, a being the area before the first
 pub record MarkedUpto (a m : List ℕ) (marks p : ℕ) (ports : List ℕ) (i : ℕ) : Type 0 where
-  pub within : i ≤ length ports
   pub known : first (λ j. leb p (get_or ports j 0)) i ≡ absent
   pub kept : Within marks p a m
   pub stand : (q : ℕ) → q < p → marked m marks q ≡ member q (take i ports)
@@ -40,7 +40,6 @@ module _ (a : List ℕ) (marks p : ℕ) (room : marks + p ≤ length a) {filled 
   unfolding marked
   marking_starts =
       record {
-        within = omega arith;
         known = refl;
         kept = within_none;
         stand = λ q h. ap (λ (w : ℕ). eqb w 1)
@@ -55,7 +54,6 @@ module _ (a : List ℕ) (marks p : ℕ) (room : marks + p ≤ length a) {filled 
     pub marking_next : not found ≡ false → MarkedUpto filled after marks p ports (i + 1)
     marking_next fine = subst (λ (l : List ℕ). MarkedUpto filled l marks p ports (i + 1)) (sym written)
         (record {
-          within = omega arith;
           known = first_next (λ j. leb p (get_or ports j 0)) i so_far.known (lt-leb p (get_or ports i 0) (omega (arith, below, entry)));
           kept = within-set so_far.kept (marks + x) 1 (omega arith) (omega (arith, below));
           stand = λ q h. stands q h (ℕ_discrete q x);
@@ -87,13 +85,13 @@ module _ (a : List ℕ) (marks p : ℕ) (room : marks + p ≤ length a) {filled 
               ∙ sym (listed q ∙ ap (λ (t : Bool). member q (take i ports) || t) (ne_eqb q x ne) ∙ or-false (member q (take i ports)))
 
     -- the first unknown entry
-    pub unknown_entry : not found ≡ true → ListMarked a after marks p ports (refused 14 i)
-    unfolding refuse answer earliest
+    pub unknown_entry : not found ≡ true → ListMarked a after marks p ports (refusal 14 i)
+    unfolding refuse earliest
     unknown_entry bad =
         record {
-          says = sym (ap (λ (f : Found). answer (refuse 14 f) false) there);
+          says = sym (ap (refuse 14) there);
           kept = subst (Within marks p a) (sym untouched) (within_both blank-kept so_far.kept);
-          marks_stand = λ e. absurd (no_answer e);
+          marks_stand = λ e. absurd (no_refusal (sym e));
         }
       where
         is_unknown : found ≡ false
@@ -111,15 +109,12 @@ module _ (a : List ℕ) (marks p : ℕ) (room : marks + p ≤ length a) {filled 
               fail = first_absent (λ j. leb p (get_or ports j 0)) i so_far.known;
             })
 
-        no_answer : refused 14 i ≡ answered false → ⊥
-        no_answer e = let z : ◌≡◌ {A = ℕ} 0 1 = cc in omega arith
-
   -- the whole list
-  pub all_known : {m : List ℕ} {i : ℕ} → MarkedUpto filled m marks p ports i → length ports ≤ i → ListMarked a m marks p ports (answered false)
-  unfolding refuse answer earliest
-  all_known {m} {i} so_far end =
+  pub all_known : {m : List ℕ} {i : ℕ} → MarkedUpto filled m marks p ports i → i ≤ length ports → length ports ≤ i → ListMarked a m marks p ports passed
+  unfolding refuse earliest
+  all_known {m} {i} so_far within end =
       record {
-        says = sym (ap (λ (f : Found). answer (refuse 14 f) false) (sym (at_the_end (first (λ j. leb p (get_or ports j 0))) so_far.within end) ∙ so_far.known));
+        says = sym (ap (refuse 14) (sym (at_the_end (first (λ j. leb p (get_or ports j 0))) within end) ∙ so_far.known));
         kept = within_both blank-kept so_far.kept;
         marks_stand = λ e q h. so_far.stand q h ∙ ap (member q) (take_all i ports end);
       }

@@ -57,7 +57,6 @@ module _ (b : List ℕ) (k q : ℕ) where
 -- ---- the state after k links, a being the area before the first
 
 pub record Passing (b a m : List ℕ) (at : Layout) (room : PortRoom) (k : ℕ) : Type 0 where
-  pub within : k ≤ at.sizes.links
   pub kept : Within room.outputs at.sizes.ports a m
   pub stand : (q : ℕ) → q < at.sizes.ports → marked m room.outputs q ≡ (marked a room.outputs q && unlinked b k q)
   pub none : (j : ℕ) → j < k → meets b (marked a room.inputs) (marked a room.outputs) j ≡ false
@@ -66,7 +65,6 @@ pub passing-starts : (b a : List ℕ) (at : Layout) (room : PortRoom) → Passin
 unfolding unlinked
 passing-starts b a at room =
     record {
-      within = omega arith;
       kept = within_none;
       stand = λ q h. sym (and-true (marked a room.outputs q));
       none = below_none _;
@@ -129,7 +127,6 @@ module _ {b a m : List ℕ} {at : Layout} {room : PortRoom} {k : ℕ} (laid : La
       pub pass_on : met ≡ false → Passing b a after at room (k + 1)
       pass_on e = subst (λ (x : List ℕ). Passing b a x at room (k + 1)) (sym written)
           (record {
-            within = omega arith;
             kept =
                 within-set (within-set pass.kept (outputs_at + s) 0 (omega arith) (omega (arith, s_below))) (outputs_at + t) 0 (omega arith)
                 (omega (arith, t_below));

@@ -1,4 +1,3 @@
 pub mod FirstLinks
 pub mod Room
 pub mod Marks
-pub mod Said

@@ -1,10 +1,10 @@
 -- What stands in the part of the area that the check of two lists of ports writes to: the nodes' first ports, a mark for each listed input,
 -- and a mark for each listed output whose first link is still to come.
 -- Rests on FirstLinks, Room, paper's Refusals and tables' Usable.
-use Rattle.std.specs.Prelude.{ℕ, ◌+◌, ◌<◌, Bool, false, cond, List, [], ◌∷◌, ◌≡◌, eqb, leb, ltb, get_or, set}
+use Rattle.std.specs.Prelude.{ℕ, ◌+◌, ◌<◌, Bool, cond, List, [], ◌∷◌, ◌≡◌, eqb, leb, ltb, get_or, set}
 use Rattle.lists.specs.Lists.{upto, any, member}
 use Rattle.paper.specs.Map.{first_port, source_port, target_port}
-use Rattle.paper.specs.Refusals.{Ruling, Answer, answered, answer, decide, refuse, earliest}
+use Rattle.paper.specs.Refusals.{Ruling, passed, decide, refuse, earliest}
 use Rattle.tables.specs.declared.Layout.{Layout}
 use Rattle.tables.specs.Usable.{Usable, Scratched}
 use Rattle.tables.specs.Within.{Within}
@@ -26,17 +26,17 @@ abbrev pub unknown_port : ℕ → List ℕ → Ruling
 unknown_port p ports = refuse 14 (earliest (leb p) ports)
 
 -- a list of ports: 14 is decided, and where all are known each has its mark, and no other port has one
-pub record ListMarked (a m : List ℕ) (marks p : ℕ) (ports : List ℕ) (said : Answer Bool) : Type 0 where
-  pub says : said ≡ answer (unknown_port p ports) false
+pub record ListMarked (a m : List ℕ) (marks p : ℕ) (ports : List ℕ) (said : Ruling) : Type 0 where
+  pub says : said ≡ unknown_port p ports
   pub kept : Within marks p a m
-  pub marks_stand : said ≡ answered false → (q : ℕ) → q < p → marked m marks q ≡ member q ports
+  pub marks_stand : said ≡ passed → (q : ℕ) → q < p → marked m marks q ≡ member q ports
 
 -- .. and both lists: "inputs before outputs"
-pub record ListsMarked (at : Layout) (room : PortRoom) (a m inputs outputs : List ℕ) (said : Answer Bool) : Type 0 where
-  pub says : said ≡ answer (decide (unknown_port at.sizes.ports inputs ∷ unknown_port at.sizes.ports outputs ∷ [])) false
+pub record ListsMarked (at : Layout) (room : PortRoom) (a m inputs outputs : List ℕ) (said : Ruling) : Type 0 where
+  pub says : said ≡ decide (unknown_port at.sizes.ports inputs ∷ unknown_port at.sizes.ports outputs ∷ [])
   pub kept : Scratched at a m
-  pub inputs_stand : said ≡ answered false → (q : ℕ) → q < at.sizes.ports → marked m room.inputs q ≡ member q inputs
-  pub outputs_stand : said ≡ answered false → (q : ℕ) → q < at.sizes.ports → marked m room.outputs q ≡ member q outputs
+  pub inputs_stand : said ≡ passed → (q : ℕ) → q < at.sizes.ports → marked m room.inputs q ≡ member q inputs
+  pub outputs_stand : said ≡ passed → (q : ℕ) → q < at.sizes.ports → marked m room.outputs q ≡ member q outputs
 
 -- the links of a map can be followed: the first ports stand in the room
 pub record Laid (b a : List ℕ) (at : Layout) (room : PortRoom) : Type 0 where

@@ -34,10 +34,7 @@ fn leads_to_input(area: &[u16], room: PortRoom, port: usize, other: usize) -> bo
     requires { (room.outputs + port < length area.now) × (room.inputs + other < length area.now) }
     ensures { result ≡ leads (marked area.now room.inputs) (marked area.now room.outputs) port other }
 {
-    if word_at(area, room.outputs, port) != 1 {
-        return false;
-    }
-    word_at(area, room.inputs, other) == 1
+    word_at(area, room.outputs, port) == 1 && word_at(area, room.inputs, other) == 1
 }
 
 // Whether link k joins a marked output and a marked input. Where it does not, later links are not the first ones of its ends.
@@ -48,10 +45,7 @@ fn pass_link(b: &[u8], at: Layout, area: &mut [u16], room: PortRoom, k: usize) -
 {
     let source = source_port(b, at, area, room, k);
     let target = target_port(b, at, area, room, k);
-    if leads_to_input(area, room, source, target) {
-        return true;
-    }
-    if leads_to_input(area, room, target, source) {
+    if leads_to_input(area, room, source, target) || leads_to_input(area, room, target, source) {
         return true;
     }
     area[room.outputs + source] = 0;
@@ -64,12 +58,10 @@ pub fn first_links_meet(b: &[u8], at: Layout, area: &mut [u16], room: PortRoom) 
     requires { Laid b.now area.old at room }
     ensures { LinksPassed b.now area.old area.new at room result }
 {
-    let mut k = 0;
-    while k < at.sizes.links {
+    for k in 0..at.sizes.links {
         if pass_link(b, at, area, room, k) {
             return true;
         }
-        k += 1;
     }
     false
 }

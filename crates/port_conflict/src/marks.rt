@@ -1,15 +1,14 @@
 // Lists of ports as marks: refusal 14, and a word for each port that is 1 if the port is listed.
 ghost use Rattle.std.specs.Prelude.{◌+◌, ◌≤◌, length};
-ghost use Rattle.paper.specs.Words.{words_from};
+ghost use Rattle.refusals.specs.Said.{ruling_of};
 ghost use Rattle.tables.specs.Placed.{scratch_size};
 ghost use Rattle.port_conflict.specs.Marks.{ListMarked, ListsMarked, PortMarked};
 ghost use Rattle.port_conflict.specs.Room.{Fits};
-ghost use Rattle.port_conflict.specs.Said.{ports_said};
 
-use super::PortsFound;
 use super::room::PortRoom;
+use refusals::Refusal;
 use tables::Layout;
-use words::field::{field_at, wide};
+use words::entries::Entries;
 use words::section::fill;
 
 // Marks a port of a map of p ports: whether there is such a port.
@@ -24,73 +23,37 @@ pub fn mark_port(area: &mut [u16], marks: usize, p: usize, port: usize) -> bool
     true
 }
 
-// Marks a list of ports, and no other port, or answers its first unknown one.
-pub fn mark_ports(area: &mut [u16], marks: usize, p: usize, ports: &[u16]) -> PortsFound
+// Marks a list of ports, and no other port, or refuses its first unknown one.
+pub fn mark_ports<E: Entries + Copy>(
+    area: &mut [u16],
+    marks: usize,
+    p: usize,
+    ports: E,
+) -> Result<(), Refusal>
     requires { marks + p ≤ length area.old }
-    ensures { ListMarked area.old area.new marks p ports.now (ports_said result) }
+    ensures { ListMarked area.old area.new marks p (E.entries ports) (ruling_of result) }
 {
     fill(area, marks, p, 0);
-    let mut i = 0;
-    while i < ports.len() {
-        if !mark_port(area, marks, p, wide(ports[i])) {
-            return PortsFound::Unknown(i);
+    for i in 0..ports.count() {
+        if !mark_port(area, marks, p, usize::from(ports.entry(i))) {
+            return Err(Refusal::UnknownPort(i));
         }
-        i += 1;
     }
-    PortsFound::Clear
-}
-
-// The same of a list in bytes.
-pub fn mark_ports_bytes(area: &mut [u16], marks: usize, p: usize, ports: &[u8]) -> PortsFound
-    requires { marks + p ≤ length area.old }
-    ensures { ListMarked area.old area.new marks p (words_from ports.now) (ports_said result) }
-{
-    fill(area, marks, p, 0);
-    let count = ports.len() / 2;
-    let mut i = 0;
-    while i < count {
-        if !mark_port(area, marks, p, wide(field_at(ports, 2 * i))) {
-            return PortsFound::Unknown(i);
-        }
-        i += 1;
-    }
-    PortsFound::Clear
+    Ok(())
 }
 
 // Marks both lists, each in its own marks; an unknown input comes before an unknown output.
-pub fn mark_lists(
+pub fn mark_lists<E: Entries + Copy>(
     at: Layout,
     area: &mut [u16],
     room: PortRoom,
-    inputs: &[u16],
-    outputs: &[u16],
-) -> PortsFound
+    inputs: E,
+    outputs: E,
+) -> Result<(), Refusal>
     requires fits { Fits at room }
     requires sizes_in_bounds { at.scratch + scratch_size at.sizes ≤ length area.old }
-    ensures { ListsMarked at room area.old area.new inputs.now outputs.now (ports_said result) }
+    ensures { ListsMarked at room area.old area.new (E.entries inputs) (E.entries outputs) (ruling_of result) }
 {
-    let among_inputs = mark_ports(area, room.inputs, at.sizes.ports, inputs);
-    let PortsFound::Clear = among_inputs else {
-        return among_inputs;
-    };
+    mark_ports(area, room.inputs, at.sizes.ports, inputs)?;
     mark_ports(area, room.outputs, at.sizes.ports, outputs)
-}
-
-// The same of lists in bytes.
-pub fn mark_lists_bytes(
-    at: Layout,
-    area: &mut [u16],
-    room: PortRoom,
-    inputs: &[u8],
-    outputs: &[u8],
-) -> PortsFound
-    requires fits { Fits at room }
-    requires sizes_in_bounds { at.scratch + scratch_size at.sizes ≤ length area.old }
-    ensures { ListsMarked at room area.old area.new (words_from inputs.now) (words_from outputs.now) (ports_said result) }
-{
-    let among_inputs = mark_ports_bytes(area, room.inputs, at.sizes.ports, inputs);
-    let PortsFound::Clear = among_inputs else {
-        return among_inputs;
-    };
-    mark_ports_bytes(area, room.outputs, at.sizes.ports, outputs)
 }

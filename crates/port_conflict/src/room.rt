@@ -22,8 +22,8 @@ pub fn lay_room(at: Layout) -> PortRoom
     let inputs = firsts + (at.sizes.nodes + 1);
     let outputs = inputs + at.sizes.ports;
     PortRoom {
-        firsts: firsts,
-        inputs: inputs,
-        outputs: outputs,
+        firsts,
+        inputs,
+        outputs,
     }
 }

@@ -9,11 +9,12 @@ use mathlib.Core.Bool.{Bool, true, false, ◌&&◌, cond, and-false}
 use mathlib.Core.List.{List, [], ◌∷◌}
 use lib.Dec.{eqb, leb, ltb}
 use lib.ListN.{length}
+use Rattle.std.specs.List.{filter, range_with_len}
 use borrow.Author.Tests.{lt-ltb, le-ltb, le-leb, lt-leb, eq-eqb, ne_eqb}
 use Rattle.lists.specs.Lists.{from, upto, one, count}
 use Rattle.lists.specs.Weight.{total}
 use Rattle.lists.proofs.Count.{length-keep}
-use Rattle.lists.proofs.Upto.{from_snoc, upto-suc, count-append}
+use Rattle.lists.proofs.Upto.{from_snoc}
 use Rattle.lists.proofs.Weight.{total-append, total-add, count-total, count-upto-same, count-from-none}
 use Rattle.paper.specs.Map.{L, ins, outs, input, output, source_port, target_port, port_links}
 use Rattle.order_theory.specs.Sound.{Sound}
@@ -25,56 +26,19 @@ use Rattle.port_lines.specs.Ends.{end_node, end_offset, is_among, links_among}
 abbrev pub ports_of : List ℕ → Bool → ℕ → ℕ
 ports_of b out v = cond out (outs b v) (ins b v)
 
--- how many of the first k links stand at some of a node's ports
-abbrev pub among_to : List ℕ → Bool → ℕ → ℕ → ℕ → ℕ → ℕ
-among_to b out v low high k = count (is_among b out v low high) (upto k)
-
 -- link k stands at one offset
 abbrev is_there : List ℕ → Bool → ℕ → ℕ → ℕ → Bool
 is_there b out v o k = eqb (end_node b out k) v && eqb (end_offset b out k) o
 
--- ---- one link
-
-module _ (b : List ℕ) (out : Bool) (v low high k : ℕ) where
-  pub elsewhere : {u : ℕ} → u ≡ end_node b out k → (u ≡ v → ⊥) → 0 ≡ one (is_among b out v low high k)
-  elsewhere e ne = sym (ap (λ (t : Bool). one (t && inside)) (ne_eqb (end_node b out k) v (λ h. ne (e ∙ h))))
-    where
-      inside : Bool
-      inside = leb low (end_offset b out k) && ltb (end_offset b out k) high
-
-  module _ {o : ℕ} (offset : o ≡ end_offset b out k) where
-    pub too_early : o < low → 0 ≡ one (is_among b out v low high k)
-    too_early h =
-        sym
-        (ap one
-        (ap (λ (t : Bool). eqb (end_node b out k) v && (t && ltb (end_offset b out k) high)) (lt-leb low (end_offset b out k) (omega arith))
-        ∙ and-false (eqb (end_node b out k) v)))
-
-    pub too_late : high ≤ o → 0 ≡ one (is_among b out v low high k)
-    too_late h =
-        sym
-        (ap one
-        (ap (λ (t : Bool). eqb (end_node b out k) v && (leb low (end_offset b out k) && t)) (le-ltb (end_offset b out k) high (omega arith))
-        ∙ ap (λ (t : Bool). eqb (end_node b out k) v && t) (and-false (leb low (end_offset b out k)))
-        ∙ and-false (eqb (end_node b out k) v)))
-
-    pub among : {u : ℕ} → u ≡ end_node b out k → u ≡ v → low ≤ o → o < high → 1 ≡ one (is_among b out v low high k)
-    among e here h g =
-        sym
-        (ap one
-        (ap (λ (t : Bool). t && (leb low (end_offset b out k) && ltb (end_offset b out k) high)) (eq-eqb (end_node b out k) v (sym e ∙ here))
-        ∙ ap (λ (t : Bool). t && ltb (end_offset b out k) high) (le-leb low (end_offset b out k) (omega arith))
-        ∙ lt-ltb (end_offset b out k) high (omega arith)))
-
-  -- .. after k others
-  pub among_next : among_to b out v low high (k + 1) ≡ among_to b out v low high k + one (is_among b out v low high k)
-  among_next =
-      omega (
-        arith,
-        ap (among_to b out v low high) (add-one k),
-        ap (count (is_among b out v low high)) (upto-suc k),
-        count-append (is_among b out v low high) (upto k) (k ∷ []),
-      )
+-- those of some numbers in a row that pass, counted one by one
+pub counted : (f : ℕ → Bool) (m n : ℕ) → length (filter f (range_with_len m n)) ≡ count f (from m n)
+counted f m zero = refl
+counted f m (suc n) = go (rw add-one (counted f (suc m) n)) (f m)
+  where
+    go : length (filter f (range_with_len (m + 1) n)) ≡ count f (from (suc m) n) → (t : Bool)
+        → length (cond t (m ∷ filter f (range_with_len (m + 1) n)) (filter f (range_with_len (m + 1) n))) ≡ one t + count f (from (suc m) n)
+    go rest true = omega (arith, rest)
+    go rest false = omega (arith, rest)
 
 -- ---- the links of one port
 

@@ -3,7 +3,6 @@
 #![tactic(auto)]
 
 ghost use Rattle.std.specs.Prelude.{◌≡◌, ◌+◌, ◌<◌};
-ghost use Rattle.lists.specs.Lists.{one};
 ghost use Rattle.paper.specs.Map.{P};
 ghost use Rattle.std.proofs.Math.Seq.{slice};
 ghost use Rattle.paper.specs.Ports.{first_line, line_count_at, view_start};
@@ -18,15 +17,16 @@ use stepmap::read::Sizes;
 use tables::Layout;
 use words::section::word_at;
 
-// The node of link k at its output or at its input.
+// The node of link k at its output or at its input. The direction is the port's, read from the map, so it is handed on as what it is.
 fn end_node(b: &[u8], n: usize, k: usize, out: bool) -> usize
     requires { HasLink b.now n k }
     ensures { result ≡ end_node b.now out k }
 {
     if out {
-        return link_from(b, n, k);
+        link_from(b, n, k)
+    } else {
+        link_to(b, n, k)
     }
-    link_to(b, n, k)
 }
 
 // The offset of link k there, among the node's outputs or its inputs.
@@ -35,27 +35,19 @@ fn end_offset(b: &[u8], n: usize, k: usize, out: bool) -> usize
     ensures { result ≡ end_offset b.now out k }
 {
     if out {
-        return link_out(b, n, k);
+        link_out(b, n, k)
+    } else {
+        link_in(b, n, k)
     }
-    link_in(b, n, k)
 }
 
-// 1 if link k stands at node v at an offset from `low` on and below `high`, and else 0.
-fn link_among(b: &[u8], n: usize, k: usize, out: bool, v: usize, low: usize, high: usize) -> usize
+// Whether link k stands at node v at an offset from `low` on and below `high`.
+fn is_among(b: &[u8], n: usize, k: usize, out: bool, v: usize, low: usize, high: usize) -> bool
     requires { HasLink b.now n k }
-    ensures { result ≡ one (is_among b.now out v low high k) }
+    ensures { result ≡ is_among b.now out v low high k }
 {
-    if end_node(b, n, k, out) != v {
-        return 0;
-    }
     let offset = end_offset(b, n, k, out);
-    if offset < low {
-        return 0;
-    }
-    if offset >= high {
-        return 0;
-    }
-    1
+    end_node(b, n, k, out) == v && low <= offset && offset < high
 }
 
 // How many links stand at node v's ports of one direction at offsets from `low` on and below `high`.
@@ -63,13 +55,9 @@ fn links_among(b: &[u8], n: usize, l: usize, out: bool, v: usize, low: usize, hi
     requires { ReadWell b.now n l (P b.now) }
     ensures { result ≡ links_among b.now out v low high }
 {
-    let mut count: usize = 0;
-    let mut k: usize = 0;
-    while k < l {
-        count += link_among(b, n, k, out, v, low, high);
-        k += 1;
-    }
-    count
+    (0..l)
+        .filter(|k| is_among(b, n, *k, out, v, low, high))
+        .count()
 }
 
 // The place in its node's list of a port's first line: one line is skipped for each link on earlier ports of the same direction.

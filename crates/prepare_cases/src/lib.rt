@@ -6,8 +6,6 @@
 pub mod list;
 mod report;
 
-ghost use Rattle.std.specs.Prelude.{◌≡◌, length};
-
 use convex::prepare::prepare;
 use list::{file_name, next_line, next_word, number, word_end};
 use reading::read_full;
@@ -15,27 +13,10 @@ use report::{write_answer, write_area};
 use std::io::Write;
 use std::rt::Files;
 use std::{fs, io};
-use words::field::wide;
-use words::section::fill;
-
-// Room for the largest W, 31,751, and for words past it.
-fn room() -> [u16; 32000]
-    ensures { length result ≡ 32000 }
-{
-    [0u16; 32000]
-}
-
-// Room for a map, and for the list of cases: what a longer one has past it is not read.
-fn byte_room() -> [u8; 65536]
-    ensures { length result ≡ 65536 }
-{
-    [0u8; 65536]
-}
 
 // Prepares the map in the area, and writes the answer and what stands in the area then.
 fn run_in(out: &mut impl Write, map: &[u8], area: &mut [u16], before: u16) -> io::Result<()> {
-    let words = area.len();
-    fill(area, 0, words, before);
+    area.fill(before);
     let answer = prepare(map, area);
     write_answer(out, answer)?;
     write_area(out, map, area)
@@ -46,7 +27,8 @@ fn run_map(out: &mut impl Write, map: &[u8], words: usize, before: u16) -> io::R
     if words > 32000 {
         return writeln!(out, "more words than there is room for");
     }
-    let mut room = room();
+    // Room for the largest W, 31,751, and for words past it.
+    let mut room = [0u16; 32000];
     run_in(out, map, &mut room[..words], before)
 }
 
@@ -61,7 +43,8 @@ fn run_file<R: Files>(
     let Ok(mut file) = fs::open(rt, name) else {
         return writeln!(out, "no such map");
     };
-    let mut bytes = byte_room();
+    // Room for a map: what a longer one has past it is not read.
+    let mut bytes = [0u8; 65536];
     let count = read_full(&mut file, &mut bytes)?;
     run_map(out, &bytes[..count], words, before)
 }
@@ -78,7 +61,7 @@ fn run_line<R: Files>(rt: &R, out: &mut impl Write, line: &[u8]) -> io::Result<(
         rt,
         out,
         file_name(&line[..name_end]),
-        wide(number(&line[words..words_end])),
+        usize::from(number(&line[words..words_end])),
         number(&line[before..before_end]),
     )?;
     out.write_all(b"\n")
@@ -86,6 +69,7 @@ fn run_line<R: Files>(rt: &R, out: &mut impl Write, line: &[u8]) -> io::Result<(
 
 fn run_lines<R: Files>(rt: &R, out: &mut impl Write, list: &[u8]) -> io::Result<()> {
     let mut at = 0;
+    // Each turn goes on behind its line, so no range counts the places.
     while at < list.len() {
         let end = next_line(list, at);
         run_line(rt, out, &list[at..end])?;
@@ -96,7 +80,8 @@ fn run_lines<R: Files>(rt: &R, out: &mut impl Write, list: &[u8]) -> io::Result<
 
 // Runs every case of the list on standard input.
 pub fn run<R: Files + Input + Print>(rt: &R) -> io::Result<()> {
-    let mut list = byte_room();
+    // Room for the list of cases.
+    let mut list = [0u8; 65536];
     let count = read_full(&mut rt.reader(), &mut list)?;
     run_lines(rt, &mut io::writer(rt), &list[..count])
 }

@@ -7,14 +7,10 @@ pub fn next_line(list: &[u8], at: usize) -> usize
     requires { at < length list.now }
     ensures { (at < result) × (result ≤ length list.now) }
 {
-    let mut end = at;
-    while end < list.len() {
-        if list[end] == b'\n' {
-            return end + 1;
-        }
-        end += 1;
+    match list[at..].iter().position(|x| *x == b'\n') {
+        Some(before) => at + before + 1,
+        None => list.len(),
     }
-    end
 }
 
 // Where the word at `at` ends: at a space, at the line's newline or at the line's end.
@@ -22,14 +18,8 @@ pub fn word_end(line: &[u8], at: usize) -> usize
     requires { at ≤ length line.now }
     ensures { (at ≤ result) × (result ≤ length line.now) }
 {
-    let mut end = at;
-    while end < line.len() {
-        if line[end] <= b' ' {
-            return end;
-        }
-        end += 1;
-    }
-    end
+    let rest = &line[at..];
+    at + rest.iter().position(|x| *x <= b' ').unwrap_or(rest.len())
 }
 
 // Where the word after the one that ends at `end` starts, if there is one.
@@ -37,10 +27,7 @@ pub fn next_word(line: &[u8], end: usize) -> usize
     requires { end ≤ length line.now }
     ensures { (end ≤ result) × (result ≤ length line.now) }
 {
-    if end == line.len() {
-        return end;
-    }
-    end + 1
+    line.len().min(end + 1)
 }
 
 // A word as a file's name. One that is no text is taken as the empty one: neither names a file.
@@ -55,7 +42,7 @@ pub fn file_name(word: &[u8]) -> &str
 fn digit(x: u8) -> usize
     ensures { result ≡ x % 16 }
 {
-    (x % 16) as usize
+    usize::from(x % 16)
 }
 
 // The number that a word of decimal digits stands for. The list has none above 65535, so the remainder cuts nothing off.

@@ -4,13 +4,11 @@
 ghost use Rattle.std.specs.Prelude.{◌≤◌, ◌<◌, length, IfOk};
 ghost use Rattle.tables.specs.Placed.{LaidOut};
 
-use answers::Prepared;
-use refusals::{number as number_of, place as place_of};
+use refusals::{Refusal, number as number_of, place as place_of};
 use std::io;
 use std::io::Write;
-use stepmap::read::{Sizes, StepMap, read_map};
+use stepmap::read::read_map;
 use tables::{Layout, lay_out};
-use words::field::wide;
 
 // A refusal by 01's number, with its place.
 fn write_refusal(out: &mut impl Write, number: usize, place: usize) -> io::Result<()> {
@@ -18,10 +16,10 @@ fn write_refusal(out: &mut impl Write, number: usize, place: usize) -> io::Resul
 }
 
 // The answer: `refused`, number and place, or `lines` and K.
-pub fn write_answer(out: &mut impl Write, answer: Prepared) -> io::Result<()> {
+pub fn write_answer(out: &mut impl Write, answer: Result<usize, Refusal>) -> io::Result<()> {
     match answer {
-        Prepared::Lines(k) => writeln!(out, "lines {k}"),
-        Prepared::Refused(x) => write_refusal(out, number_of(x), place_of(x)),
+        Ok(k) => writeln!(out, "lines {k}"),
+        Err(x) => write_refusal(out, number_of(x), place_of(x)),
     }
 }
 
@@ -31,14 +29,12 @@ fn run_end(words: &[u16], at: usize) -> usize
     ensures { (at < result) × (result ≤ length words.now) }
 {
     let first = words[at];
-    let mut end = at + 1;
-    while end < words.len() {
-        if words[end] != first {
-            return end;
-        }
-        end += 1;
-    }
-    end
+    let rest = &words[at + 1..];
+    at + 1
+        + rest
+            .iter()
+            .position(|word| *word != first)
+            .unwrap_or(rest.len())
 }
 
 // Writes the word at `at`, or the run of four or more that starts there, and answers where to go on.
@@ -58,6 +54,7 @@ fn write_run(out: &mut impl Write, words: &[u16], at: usize) -> io::Result<usize
 
 fn write_words(out: &mut impl Write, words: &[u16]) -> io::Result<()> {
     let mut at = 0;
+    // Each turn goes on behind its run, so no range counts the places.
     while at < words.len() {
         at = write_run(out, words, at)?;
     }
@@ -77,7 +74,7 @@ fn checksum(words: &[u16]) -> usize
 {
     let mut sum: usize = 0;
     for word in words {
-        sum = (sum * 257 + wide(*word)) % 4294967291;
+        sum = (sum * 257 + usize::from(*word)) % 4294967291;
     }
     sum
 }
@@ -89,10 +86,7 @@ fn write_checksum(out: &mut impl Write, words: &[u16]) -> io::Result<()> {
 
 // Whether a section is written as its checksum.
 fn is_long(words: &[u16]) -> bool {
-    if words.len() <= 80 {
-        return false;
-    }
-    run_end(words, 0) < words.len()
+    words.len() > 80 && run_end(words, 0) < words.len()
 }
 
 // A section's words, on one line.
@@ -147,19 +141,8 @@ fn write_placed(out: &mut impl Write, area: &[u16], at: Layout) -> io::Result<()
 
 // The area after preparing the map, which is as one for a map of refusal 1 or 2.
 pub fn write_area(out: &mut impl Write, map: &[u8], area: &[u16]) -> io::Result<()> {
-    let found = read_map(map);
-    let StepMap::Sized {
-        nodes,
-        links,
-        ports,
-    } = found
-    else {
-        return write_section(out, "area", area);
-    };
-    let at = lay_out(Sizes {
-        nodes: nodes,
-        links: links,
-        ports: ports,
-    });
-    write_placed(out, area, at)
+    match read_map(map) {
+        Ok(sizes) => write_placed(out, area, lay_out(sizes)),
+        Err(_) => write_section(out, "area", area),
+    }
 }

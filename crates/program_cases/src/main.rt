@@ -12,21 +12,13 @@ use std::io::Write;
 use std::rt::Files;
 use std::{fs, io};
 
-// Room for the list of cases.
-fn list_room() -> [u8; 4096]
-    ensures { length result ≡ 4096 }
-{
-    [0u8; 4096]
-}
-
 // The program that a line names: `why`, or else `ask`.
 fn program_of(line: &[u8]) -> Program {
-    if line.len() > 0 {
-        if line[0] == b'w' {
-            return Program::Why;
-        }
+    if line.starts_with(b"w") {
+        Program::Why
+    } else {
+        Program::Ask
     }
-    Program::Ask
 }
 
 // Runs a program on a map's file, which may be missing, and on a file for its input, which must be there.
@@ -63,6 +55,7 @@ fn run_line<R: Files>(rt: &R, out: &mut impl Write, line: &[u8]) -> io::Result<(
 
 fn run_lines<R: Files>(rt: &R, out: &mut impl Write, list: &[u8]) -> io::Result<()> {
     let mut at = 0;
+    // Each turn goes on behind its line, so no range counts the places.
     while at < list.len() {
         let end = next_line(list, at);
         run_line(rt, out, &list[at..end])?;
@@ -72,7 +65,8 @@ fn run_lines<R: Files>(rt: &R, out: &mut impl Write, list: &[u8]) -> io::Result<
 }
 
 fn main(rt: HostRuntime) -> io::Result<()> {
-    let mut list = list_room();
+    // Room for the list of cases.
+    let mut list = [0u8; 4096];
     let count = read_full(&mut rt.reader(), &mut list)?;
     run_lines(&rt, &mut io::writer(&rt), &list[..count])
 }

@@ -13,6 +13,7 @@ pub fn read_full<R: Read>(from: &mut R, room: &mut [u8]) -> io::Result<usize>
     ensures first { IfOk result (λ n. IfSome (R.remaining from.old) (λ xs. take n room.new ≡ take (length room.new) xs)) }
 {
     let mut at = 0;
+    // Each turn goes on behind what came, so no range counts the places.
     while at < room.len() {
         let count = from.read(&mut room[at..])?;
         if count == 0 {

@@ -12,9 +12,8 @@ use convex::line_convex_checker::{
 };
 use convex::prepare::prepare;
 use line_checker::room::{copy_out, record_room};
-use recorded::held::{is_extend_answer, is_line_answer, is_nodes_answer, is_prepared};
+use recorded::held::{is_line_answer, is_nodes_answer, is_prepared, is_written_answer};
 use recorded::line_parts::{Part, list_at};
-use words::field::wide;
 
 // Whether preparing the map answers the line's rest.
 pub fn prepares_to(map: &[u8], area: &mut [u16], words: &[u16]) -> bool
@@ -24,7 +23,7 @@ pub fn prepares_to(map: &[u8], area: &mut [u16], words: &[u16]) -> bool
     if words.len() < 3 {
         return false;
     }
-    let at = 3 + 2 * wide(words[1]) + 4 * wide(words[2]);
+    let at = 3 + 2 * usize::from(words[1]) + 4 * usize::from(words[2]);
     if at > words.len() {
         return false;
     }
@@ -38,10 +37,10 @@ pub fn same_record_check(words: &[u16], map: &[u8], area: &mut [u16]) -> bool
     ensures cleared { result ≡ true → area.new ≡ area_after map.now area.old }
 {
     let records = list_at(words, 2);
-    let Part::Words { from, to } = records else {
+    let Some(Part { from, to }) = records else {
         return false;
     };
-    let count = wide(words[1]);
+    let count = usize::from(words[1]);
     let answer = is_convex_by_intervals(map, area, &words[from..to], count);
     is_line_answer(words, to, answer)
 }
@@ -73,14 +72,16 @@ pub fn same_nodes(words: &[u16], map: &[u8], area: &mut [u16]) -> bool
     ensures cleared { result ≡ true → area.new ≡ area_after map.now area.old }
 {
     let records = list_at(words, 2);
-    let Part::Words { from, to } = records else {
+    let Some(Part { from, to }) = records else {
         return false;
     };
     let buffer = list_at(words, to);
-    let Part::Words {
-        from: start,
-        to: end,
-    } = buffer
+    let Some(
+        Part {
+            from: start,
+            to: end,
+        },
+    ) = buffer
     else {
         return false;
     };
@@ -96,7 +97,7 @@ pub fn same_nodes(words: &[u16], map: &[u8], area: &mut [u16]) -> bool
         map,
         area,
         &words[from..to],
-        wide(words[1]),
+        usize::from(words[1]),
         &mut room[0..size],
     )
 }
@@ -119,7 +120,7 @@ fn extends_to(
     ensures cleared { area.new ≡ area_after map.now area.old }
 {
     let answer = try_extend_intervals(map, area, buffer, count, node);
-    is_extend_answer(words, at, answer, buffer)
+    is_written_answer(words, at, answer, buffer)
 }
 
 // Extension: how many records, the node, and the buffer that the records begin; the answer and the buffer.
@@ -128,7 +129,7 @@ pub fn same_extension(words: &[u16], map: &[u8], area: &mut [u16]) -> bool
     ensures cleared { result ≡ true → area.new ≡ area_after map.now area.old }
 {
     let buffer = list_at(words, 3);
-    let Part::Words { from, to } = buffer else {
+    let Some(Part { from, to }) = buffer else {
         return false;
     };
     let size = to - from;
@@ -143,7 +144,7 @@ pub fn same_extension(words: &[u16], map: &[u8], area: &mut [u16]) -> bool
         map,
         area,
         &mut room[0..size],
-        wide(words[1]),
-        wide(words[2]),
+        usize::from(words[1]),
+        usize::from(words[2]),
     )
 }

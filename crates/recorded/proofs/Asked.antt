@@ -9,6 +9,7 @@ use lib.ListN.{length, get_or, take, drop, length-drop, drop_of_length-le}
 use lib.Seq.{sets, sets-eq, take_all, take-append_seam, length-take-le}
 use lib.Dec.{leb}
 use borrow.Author.Tests.{lt-leb, le-leb}
+use Rattle.std.proofs.Common.{Option, None, Some}
 use Rattle.lists.specs.Lists.{one, same}
 use Rattle.paper.specs.Refusals.{Answer}
 use Rattle.paper.specs.Intervals.{Reply}
@@ -18,7 +19,6 @@ use Rattle.recorded.specs.Parts.{ListAt, list_at, behind}
 use Rattle.recorded.specs.Answers.{told_words, line_words, order_words, written_words, count_words, pair_words, with_list}
 use Rattle.recorded.specs.Questions.{same_port_lines}
 use Rattle.recorded.specs.declared.line_parts.Part.{Part}
-use Rattle.recorded.specs.declared.line_parts.Part.TheVariants.{Words, Missing}
 
 -- what is never true asks nothing
 pub not-true : {A : Type 0} → false ≡ true → A
@@ -65,22 +65,22 @@ module _ (line : List ℕ) (at : ℕ) where
 -- ---- the parts of a question
 
 -- a list's part of the line is the list
-pub as_list : (line : List ℕ) (at : ℕ) {part : Part} {from to : ℕ} → ListAt part line at → part ≡ Words from to
-    → take (to - from) (drop from line) ≡ list_at line at
+pub as_list : (line : List ℕ) (at : ℕ) {answer : Option Part} {part : Part} → ListAt answer line at → answer ≡ Some part
+    → take (part.to - part.from) (drop part.from line) ≡ list_at line at
 unfolding ListAt list_at
-as_list line at {part} {from} {to} h e =
-    let found : ListAt (Words from to) line at = subst (λ (p : Part). ListAt p line at) e h in
-    let size : to - from ≡ get_or line at 0 = omega (arith, found.0, found.1) in
-    ap (λ (n : ℕ). take n (drop from line)) size ∙ ap (λ (n : ℕ). take (get_or line at 0) (drop n line)) found.0
+as_list line at {answer} {part} h e =
+    let found : ListAt (Some part) line at = subst (λ (p : Option Part). ListAt p line at) e h in
+    let size : part.to - part.from ≡ get_or line at 0 = omega (arith, found.0, found.1) in
+    ap (λ (n : ℕ). take n (drop part.from line)) size ∙ ap (λ (n : ℕ). take (get_or line at 0) (drop n line)) found.0
 
 -- .. and ends where it ends
-pub ends : (line : List ℕ) (at : ℕ) {part : Part} {from to : ℕ} → ListAt part line at → part ≡ Words from to → to ≡ behind line at
+pub ends : (line : List ℕ) (at : ℕ) {answer : Option Part} {part : Part} → ListAt answer line at → answer ≡ Some part → part.to ≡ behind line at
 unfolding ListAt
-ends line at {part} {from} {to} h e = (subst (λ (p : Part). ListAt p line at) e h).1
+ends line at {answer} {part} h e = (subst (λ (p : Option Part). ListAt p line at) e h).1
 
-pub lacks : (line : List ℕ) (at : ℕ) {part : Part} → ListAt part line at → part ≡ Missing → length line < behind line at
+pub lacks : (line : List ℕ) (at : ℕ) {answer : Option Part} → ListAt answer line at → answer ≡ None → length line < behind line at
 unfolding ListAt
-lacks line at h e = subst (λ (p : Part). ListAt p line at) e h
+lacks line at h e = subst (λ (p : Option Part). ListAt p line at) e h
 
 -- ---- the answer is the call's
 
@@ -98,40 +98,40 @@ module _ {A : Type 0} (line : List ℕ) (said : Answer A → List ℕ) where
 
 -- ---- questions of one list, of two and of three, each behind the other
 
-module _ (line : List ℕ) (at : ℕ) {p₁ : Part} {f₁ t₁ : ℕ} (h₁ : ListAt p₁ line at) (q₁ : p₁ ≡ Words f₁ t₁) where
+module _ (line : List ℕ) (at : ℕ) {o₁ : Option Part} {p₁ : Part} (h₁ : ListAt o₁ line at) (q₁ : o₁ ≡ Some p₁) where
   pub one_list : {A : Type 0} (said : Answer A → List ℕ) (ask : List ℕ → Left A) {left : Left A} {r : Bool}
-      → left ≡ ask (take (t₁ - f₁) (drop f₁ line)) → r ≡ same (drop t₁ line) (said left.answer)
+      → left ≡ ask (take (p₁.to - p₁.from) (drop p₁.from line)) → r ≡ same (drop p₁.to line) (said left.answer)
       → r ≡ same (drop (behind line at) line) (said (ask (list_at line at)).answer)
   one_list said ask e f = asked line said (e ∙ ap ask (as_list line at h₁ q₁)) f (ends line at h₁ q₁)
 
-  pub lacks_second : {p₂ : Part} → ListAt p₂ line t₁ → p₂ ≡ Missing → length line < behind line (behind line at)
+  pub lacks_second : {o₂ : Option Part} → ListAt o₂ line p₁.to → o₂ ≡ None → length line < behind line (behind line at)
   lacks_second h₂ q₂ =
-      subst (λ (n : ℕ). length line < behind line n) (ends line at h₁ q₁) (lacks line t₁ h₂ q₂)
+      subst (λ (n : ℕ). length line < behind line n) (ends line at h₁ q₁) (lacks line p₁.to h₂ q₂)
 
-  module _ {p₂ : Part} {f₂ t₂ : ℕ} (h₂ : ListAt p₂ line t₁) (q₂ : p₂ ≡ Words f₂ t₂) where
-    pub second : take (t₂ - f₂) (drop f₂ line) ≡ list_at line (behind line at)
-    second = as_list line t₁ h₂ q₂ ∙ ap (list_at line) (ends line at h₁ q₁)
+  module _ {o₂ : Option Part} {p₂ : Part} (h₂ : ListAt o₂ line p₁.to) (q₂ : o₂ ≡ Some p₂) where
+    pub second : take (p₂.to - p₂.from) (drop p₂.from line) ≡ list_at line (behind line at)
+    second = as_list line p₁.to h₂ q₂ ∙ ap (list_at line) (ends line at h₁ q₁)
 
-    pub second-ends : t₂ ≡ behind line (behind line at)
-    second-ends = ends line t₁ h₂ q₂ ∙ ap (λ (n : ℕ). behind line n) (ends line at h₁ q₁)
+    pub second-ends : p₂.to ≡ behind line (behind line at)
+    second-ends = ends line p₁.to h₂ q₂ ∙ ap (λ (n : ℕ). behind line n) (ends line at h₁ q₁)
 
-    pub lacks_third : {p₃ : Part} → ListAt p₃ line t₂ → p₃ ≡ Missing → length line < behind line (behind line (behind line at))
-    lacks_third h₃ q₃ = subst (λ (n : ℕ). length line < behind line n) second-ends (lacks line t₂ h₃ q₃)
+    pub lacks_third : {o₃ : Option Part} → ListAt o₃ line p₂.to → o₃ ≡ None → length line < behind line (behind line (behind line at))
+    lacks_third h₃ q₃ = subst (λ (n : ℕ). length line < behind line n) second-ends (lacks line p₂.to h₃ q₃)
 
-    pub three_lists : {A : Type 0} (said : Answer A → List ℕ) (ask : List ℕ → List ℕ → List ℕ → Left A) {p₃ : Part} {f₃ t₃ : ℕ} {left : Left A} {r : Bool}
-        → ListAt p₃ line t₂ → p₃ ≡ Words f₃ t₃
-        → left ≡ ask (take (t₁ - f₁) (drop f₁ line)) (take (t₂ - f₂) (drop f₂ line)) (take (t₃ - f₃) (drop f₃ line))
-        → r ≡ same (drop t₃ line) (said left.answer)
+    pub three_lists : {A : Type 0} (said : Answer A → List ℕ) (ask : List ℕ → List ℕ → List ℕ → Left A) {o₃ : Option Part} {p₃ : Part} {left : Left A} {r : Bool}
+        → ListAt o₃ line p₂.to → o₃ ≡ Some p₃
+        → left ≡ ask (take (p₁.to - p₁.from) (drop p₁.from line)) (take (p₂.to - p₂.from) (drop p₂.from line)) (take (p₃.to - p₃.from) (drop p₃.from line))
+        → r ≡ same (drop p₃.to line) (said left.answer)
         → r
         ≡ same (drop (behind line (behind line (behind line at))) line)
         (said (ask (list_at line at) (list_at line (behind line at)) (list_at line (behind line (behind line at)))).answer)
-    three_lists {A} said ask {p₃} {f₃} {t₃} h₃ q₃ e f =
-        let third = as_list line t₂ h₃ q₃ ∙ ap (list_at line) second-ends in
-        let there : t₃ ≡ behind line (behind line (behind line at)) = ends line t₂ h₃ q₃ ∙ ap (λ (n : ℕ). behind line n) second-ends in
+    three_lists {A} said ask {o₃} {p₃} h₃ q₃ e f =
+        let third = as_list line p₂.to h₃ q₃ ∙ ap (list_at line) second-ends in
+        let there : p₃.to ≡ behind line (behind line (behind line at)) = ends line p₂.to h₃ q₃ ∙ ap (λ (n : ℕ). behind line n) second-ends in
         asked line said
         (
-        e ∙ ap (λ (l : List ℕ). ask l (take (t₂ - f₂) (drop f₂ line)) (take (t₃ - f₃) (drop f₃ line))) (as_list line at h₁ q₁)
-        ∙ ap (λ (l : List ℕ). ask (list_at line at) l (take (t₃ - f₃) (drop f₃ line))) second
+        e ∙ ap (λ (l : List ℕ). ask l (take (p₂.to - p₂.from) (drop p₂.from line)) (take (p₃.to - p₃.from) (drop p₃.from line))) (as_list line at h₁ q₁)
+        ∙ ap (λ (l : List ℕ). ask (list_at line at) l (take (p₃.to - p₃.from) (drop p₃.from line))) second
         ∙ ap (ask (list_at line at) (list_at line (behind line at))) third
         )
         f there
@@ -146,26 +146,26 @@ roomed room₀ part n {room} e long fits =
     let room-is = e ∙ ap (sets room₀ 0) whole ∙ sets-eq part room₀ 0 (omega arith) in
     ap (take n) room-is ∙ ap (λ (k : ℕ). take k (part ++ drop (0 + length part) room₀)) (sym long) ∙ take-append_seam part (drop (0 + length part) room₀)
 
-pub part_length : (line : List ℕ) (at : ℕ) {part : Part} {from to : ℕ} → ListAt part line at → part ≡ Words from to
-    → length (take (to - from) (drop from line)) ≡ to - from
+pub part_length : (line : List ℕ) (at : ℕ) {answer : Option Part} {part : Part} → ListAt answer line at → answer ≡ Some part
+    → length (take (part.to - part.from) (drop part.from line)) ≡ part.to - part.from
 unfolding ListAt
-part_length line at {part} {from} {to} h e =
-    let found : ListAt (Words from to) line at = subst (λ (p : Part). ListAt p line at) e h in
-    length-take-le (to - from) (drop from line) (omega (arith, length-drop from line, found.0, found.1, found.2))
+part_length line at {answer} {part} h e =
+    let found : ListAt (Some part) line at = subst (λ (p : Option Part). ListAt p line at) e h in
+    length-take-le (part.to - part.from) (drop part.from line) (omega (arith, length-drop part.from line, found.0, found.1, found.2))
 
-pub part-size : (line : List ℕ) (at : ℕ) {part : Part} {from to : ℕ} → ListAt part line at → part ≡ Words from to → to - from ≡ get_or line at 0
+pub part-size : (line : List ℕ) (at : ℕ) {answer : Option Part} {part : Part} → ListAt answer line at → answer ≡ Some part → part.to - part.from ≡ get_or line at 0
 unfolding ListAt
-part-size line at {part} {from} {to} h e =
-    let found : ListAt (Words from to) line at = subst (λ (p : Part). ListAt p line at) e h in omega (arith, found.0, found.1)
+part-size line at {answer} {part} h e =
+    let found : ListAt (Some part) line at = subst (λ (p : Option Part). ListAt p line at) e h in omega (arith, found.0, found.1)
 
 -- what is lent of the room holds the list's words
-pub lent : (line : List ℕ) (at : ℕ) {part : Part} {from to : ℕ} → ListAt part line at → part ≡ Words from to → (room₀ : List ℕ) {room : List ℕ}
-    → length room₀ ≡ 7680 → to - from ≤ 7680 → room ≡ sets room₀ 0 (take (to - from) (take (to - from) (drop from line)))
-    → take (to - from - 0) room ≡ take (to - from) (drop from line)
-lent line at {part} {from} {to} h e room₀ {room} long fits r =
-    let whole : to - from - 0 ≡ to - from = omega arith in
+pub lent : (line : List ℕ) (at : ℕ) {answer : Option Part} {part : Part} → ListAt answer line at → answer ≡ Some part → (room₀ : List ℕ) {room : List ℕ}
+    → length room₀ ≡ 7680 → part.to - part.from ≤ 7680 → room ≡ sets room₀ 0 (take (part.to - part.from) (take (part.to - part.from) (drop part.from line)))
+    → take (part.to - part.from - 0) room ≡ take (part.to - part.from) (drop part.from line)
+lent line at {answer} {part} h e room₀ {room} long fits r =
+    let whole : part.to - part.from - 0 ≡ part.to - part.from = omega arith in
     ap (λ (n : ℕ). take n room) whole
-    ∙ roomed room₀ (take (to - from) (drop from line)) (to - from) r (part_length line at h e) (omega arith)
+    ∙ roomed room₀ (take (part.to - part.from) (drop part.from line)) (part.to - part.from) r (part_length line at h e) (omega arith)
 
 module _ (n m : ℕ) (t : Bool) where
   -- too long for the program's room
@@ -181,22 +181,22 @@ module _ (n m : ℕ) (t : Bool) where
 
 -- ---- the buffer is the question's one list, or its second
 
-module _ (line : List ℕ) (at : ℕ) {p₁ : Part} {f₁ t₁ : ℕ} (h₁ : ListAt p₁ line at) (q₁ : p₁ ≡ Words f₁ t₁) where
+module _ (line : List ℕ) (at : ℕ) {o₁ : Option Part} {p₁ : Part} (h₁ : ListAt o₁ line at) (q₁ : o₁ ≡ Some p₁) where
   pub one_with : {A : Type 0} (said : Answer A → List ℕ) (ask : List ℕ → LeftWith A) {buffer : List ℕ} {r : Bool}
-      → buffer ≡ take (t₁ - f₁) (drop f₁ line)
-      → r ≡ same (drop t₁ line) (with_list (said (ask buffer).answer) (ask buffer).buffer)
+      → buffer ≡ take (p₁.to - p₁.from) (drop p₁.from line)
+      → r ≡ same (drop p₁.to line) (with_list (said (ask buffer).answer) (ask buffer).buffer)
       → r ≡ same (drop (behind line at) line) (with_list (said (ask (list_at line at)).answer) (ask (list_at line at)).buffer)
   one_with said ask e f = asked_with line said (ap ask (e ∙ as_list line at h₁ q₁)) f (ends line at h₁ q₁)
 
-  module _ {p₂ : Part} {f₂ t₂ : ℕ} (h₂ : ListAt p₂ line t₁) (q₂ : p₂ ≡ Words f₂ t₂) where
-    pub second-size : t₂ - f₂ ≡ get_or line (behind line at) 0
-    second-size = part-size line t₁ h₂ q₂ ∙ ap (λ (n : ℕ). get_or line n 0) (ends line at h₁ q₁)
+  module _ {o₂ : Option Part} {p₂ : Part} (h₂ : ListAt o₂ line p₁.to) (q₂ : o₂ ≡ Some p₂) where
+    pub second-size : p₂.to - p₂.from ≡ get_or line (behind line at) 0
+    second-size = part-size line p₁.to h₂ q₂ ∙ ap (λ (n : ℕ). get_or line n 0) (ends line at h₁ q₁)
 
     pub two_with : {A : Type 0} (said : Answer A → List ℕ) (ask : List ℕ → List ℕ → LeftWith A) {buffer : List ℕ} {r : Bool}
-        → buffer ≡ take (t₂ - f₂) (drop f₂ line)
+        → buffer ≡ take (p₂.to - p₂.from) (drop p₂.from line)
         → r
-        ≡ same (drop t₂ line)
-        (with_list (said (ask (take (t₁ - f₁) (drop f₁ line)) buffer).answer) (ask (take (t₁ - f₁) (drop f₁ line)) buffer).buffer)
+        ≡ same (drop p₂.to line)
+        (with_list (said (ask (take (p₁.to - p₁.from) (drop p₁.from line)) buffer).answer) (ask (take (p₁.to - p₁.from) (drop p₁.from line)) buffer).buffer)
         → r
         ≡ same (drop (behind line (behind line at)) line)
         (with_list (said (ask (list_at line at) (list_at line (behind line at))).answer) (ask (list_at line at) (list_at line (behind line at))).buffer)

@@ -5,20 +5,16 @@ use native.Mathlib.Omega.{arith}
 use mathlib.Core.Path.{◌≡◌, subst}
 use mathlib.Core.List.{List}
 use lib.ListN.{length}
-use Rattle.recorded.specs.Parts.{ListAt, Ordered}
+use Rattle.std.proofs.Common.{Option, Some}
+use Rattle.recorded.specs.Parts.{ListAt}
 use Rattle.recorded.specs.declared.line_parts.Part.{Part}
-use Rattle.recorded.specs.declared.line_parts.Part.TheVariants.{Words}
 
 pub record Within (from to : ℕ) (line : List ℕ) : Type 0 where
   pub ordered : from ≤ to
   pub inside : to ≤ length line
 
-pub in_order : {part : Part} {from to : ℕ} → Ordered part → part ≡ Words from to → from ≤ to
-unfolding Ordered
-in_order {part} {from} {to} h e = subst Ordered e h
-
-pub within : {part : Part} {from to : ℕ} (line : List ℕ) (at : ℕ) → ListAt part line at → part ≡ Words from to → Within from to line
+pub within : {found : Option Part} {part : Part} (line : List ℕ) (at : ℕ) → ListAt found line at → found ≡ Some part → Within part.from part.to line
 unfolding ListAt
-within {part} {from} {to} line at h e =
-    let found : ListAt (Words from to) line at = subst (λ (p : Part). ListAt p line at) e h in
-    record { ordered = omega (arith, found.1); inside = found.2 }
+within {found} {part} line at h e =
+    let there : ListAt (Some part) line at = subst (λ (p : Option Part). ListAt p line at) e h in
+    record { ordered = omega (arith, there.1); inside = there.2 }

@@ -1,6 +1,6 @@
 -- A line's list held against a part of the area, and the part against the place of a section's words in use.
 -- Rests on Sections and tables' Placed.
-use Prim.Native.Nat.{ℕ, ◌+◌, ◌-◌, ◌≤◌}
+use Prim.Native.Nat.{ℕ, ◌-◌, ◌≤◌}
 use native.Mathlib.Omega.{arith}
 use mathlib.Core.Path.{◌≡◌, sym, ap, ap₂, subst, fun_ext, ◌∙◌}
 use mathlib.Core.Bool.{Bool, true, false, cond}
@@ -15,28 +15,19 @@ use Rattle.stepmap.specs.declared.read.Sizes.{Sizes}
 use Rattle.tables.specs.Placed.{Few, LaidOut}
 use Rattle.tables.specs.declared.Layout.{Layout}
 use Rattle.tables.proofs.Placed.{few, places}
-use Rattle.recorded.specs.Sections.{used_at, used_in, UsedAt, IsPart, SameSection}
+use Rattle.recorded.specs.Sections.{used_at, used_in, UsedAt, Between, SameSection}
 use Rattle.recorded.specs.declared.line_parts.Part.{Part}
-use Rattle.recorded.specs.declared.line_parts.Part.TheVariants.{Words, Missing}
-
--- a part stands at the place that a kind has
-pub stands_at : {kind from to : ℕ} (at : Layout) (k j : ℕ) → kind ≡ j → (from ≡ (used_in at k j).0) × (to ≡ (used_in at k j).0 + (used_in at k j).1)
-    → UsedAt (Words from to) (used_in at k kind)
-unfolding UsedAt
-stands_at at k j e stands = rw e stands
 
 -- no answer false is true
 pub not_so : {A : Type 0} → false ≡ true → A
 not_so e = let z : ◌≡◌ {A = ℕ} 0 1 = ap (λ (s : Bool). cond s 1 0) e in absurd (omega arith)
 
 -- what `is_list` compares is the part
-pub is-between : {part : Part} {from to : ℕ} (line a : List ℕ) {r : Bool} → part ≡ Words from to → from ≤ to → to ≤ length a
-    → r ≡ same (drop 1 line) (length (take (to - from) (drop from a)) ∷ take (to - from) (drop from a)) → r ≡ true → IsPart part line a
-unfolding IsPart
-is-between {part} {from} {to} line a e f g says so =
+pub is-between : {from to : ℕ} (line a : List ℕ) {r : Bool} → from ≤ to → to ≤ length a
+    → r ≡ same (drop 1 line) (length (take (to - from) (drop from a)) ∷ take (to - from) (drop from a)) → r ≡ true → Between from to line a
+is-between {from} {to} line a f g says so =
     let long : length (take (to - from) (drop from a)) ≡ to - from = length-take-le (to - from) (drop from a) (omega (arith, length-drop from a)) in
-    subst (λ (p : Part). IsPart p line a) (sym e)
-    (ap (λ (k : ℕ). same (drop 1 line) (k ∷ take (to - from) (drop from a))) (sym long) ∙ sym says ∙ so)
+    ap (λ (k : ℕ). same (drop 1 line) (k ∷ take (to - from) (drop from a))) (sym long) ∙ sym says ∙ so
 
 -- the part of a section's words in use, in the area of a map that was read
 module _ {b : List ℕ} {s : Sizes} {at : Layout} (read : ReadWell b s.nodes s.links s.ports) (out : LaidOut s at) where
@@ -54,7 +45,6 @@ module _ {b : List ℕ} {s : Sizes} {at : Layout} (read : ReadWell b s.nodes s.l
       ap₂ (λ (n l : ℕ). used_at (start b) n l k kind) here.nodes here.links
       ∙ ap (λ (begin : Section → ℕ). used_at begin at.sizes.nodes at.sizes.links k kind) (fun_ext (places here laid).stands)
 
-  pub is-section : (kind : ℕ) (line a : List ℕ) (part : Part) → UsedAt part (used_in at (get_or a 0 0) kind) → IsPart part line a → SameSection kind line b a
-  unfolding UsedAt IsPart SameSection
-  is-section kind line a (Words from to) used is = rw (used-is (get_or a 0 0) kind, ← used.1, ← used.0) is
-  is-section kind line a Missing used is = absurd is
+  pub is-section : (kind : ℕ) (line a : List ℕ) {part : Part} → UsedAt part (used_in at (get_or a 0 0) kind) → Between part.from part.to line a → SameSection kind line b a
+  unfolding SameSection
+  is-section kind line a used is = rw (used-is (get_or a 0 0) kind, ← used.1, ← used.0) is

@@ -7,7 +7,6 @@ use Rattle.paper.specs.Map.{N, L}
 use Rattle.tables.specs.Placed.{place}
 use Rattle.tables.specs.declared.Layout.{Layout}
 use Rattle.recorded.specs.declared.line_parts.Part.{Part}
-use Rattle.recorded.specs.declared.line_parts.Part.TheVariants.{Words, Missing}
 
 -- the place of a kind's section and how many of its words are in use: order, positions, node starts, lines of nodes, line starts, nodes of lines.
 -- Of the two lists they are L + K, of the line starts K + 1
@@ -25,17 +24,13 @@ used_at begin n l k kind =
 abbrev pub used_in : Layout → ℕ → ℕ → ℕ × ℕ
 used_in at = used_at (place at) at.sizes.nodes at.sizes.links
 
-unfoldable pub UsedAt : Part → ℕ × ℕ → Type 0
-UsedAt (Words from to) used = (from ≡ used.0) × (to ≡ used.0 + used.1)
-UsedAt Missing used = Unit {0}
+-- .. as a part of the area
+abbrev pub UsedAt : Part → ℕ × ℕ → Type 0
+UsedAt part used = (part.from ≡ used.0) × (part.to ≡ used.0 + used.1)
 
 -- the line's list is a part of the area
 abbrev pub Between : ℕ → ℕ → List ℕ → List ℕ → Type 0
 Between from to line a = same (drop 1 line) ((to - from) ∷ take (to - from) (drop from a)) ≡ true
-
-unfoldable pub IsPart : Part → List ℕ → List ℕ → Type 0
-IsPart (Words from to) line a = Between from to line a
-IsPart Missing line a = ⊥
 
 unfoldable pub SameSection : ℕ → List ℕ → List ℕ → List ℕ → Type 0
 SameSection kind line b a = let used = used_at (start b) (N b) (L b) (get_or a 0 0) kind in Between used.0 (used.0 + used.1) line a

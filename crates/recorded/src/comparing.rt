@@ -3,23 +3,11 @@ ghost use Rattle.std.specs.Prelude.{◌≡◌, ◌∷◌, ◌≤◌, length, tak
 ghost use Rattle.lists.specs.Lists.{same};
 ghost use Rattle.recorded.specs.Answers.{with_list};
 
-use words::field::wide;
-
 // Whether two lists of words are the same.
 pub fn same_words(xs: &[u16], ys: &[u16]) -> bool
     ensures { result ≡ same xs.now ys.now }
 {
-    if xs.len() != ys.len() {
-        return false;
-    }
-    let mut i = 0;
-    while i < xs.len() {
-        if xs[i] != ys[i] {
-            return false;
-        }
-        i += 1;
-    }
-    true
+    xs == ys
 }
 
 // Whether the rest is a list with its length before it.
@@ -27,20 +15,10 @@ pub fn is_list(words: &[u16], at: usize, list: &[u16]) -> bool
     requires { at ≤ length words.now }
     ensures { result ≡ same (drop at words.now) (length list.now ∷ list.now) }
 {
-    if words.len() - at == 0 {
+    if at == words.len() {
         return false;
     }
-    if wide(words[at]) != list.len() {
-        return false;
-    }
-    same_words(&words[at + 1..], list)
-}
-
-// A word as a number that is told.
-fn told_word(x: u16) -> u64
-    ensures { result ≡ x }
-{
-    x as u64
+    usize::from(words[at]) == list.len() && same_words(&words[at + 1..], list)
 }
 
 // Whether the rest begins with the numbers told.
@@ -51,14 +29,8 @@ fn begins(words: &[u16], at: usize, told: &[u64]) -> bool
     if words.len() - at < told.len() {
         return false;
     }
-    let mut i = 0;
-    while i < told.len() {
-        if told_word(words[at + i]) != told[i] {
-            return false;
-        }
-        i += 1;
-    }
-    true
+    let front = &words[at..at + told.len()];
+    front.iter().zip(told).all(|(x, y)| u64::from(*x) == *y)
 }
 
 // Whether the rest is the numbers told.
@@ -66,10 +38,7 @@ pub fn is_told(words: &[u16], at: usize, told: &[u64]) -> bool
     requires { at ≤ length words.now }
     ensures { result ≡ same (drop at words.now) told.now }
 {
-    if words.len() - at != told.len() {
-        return false;
-    }
-    begins(words, at, told)
+    words.len() - at == told.len() && begins(words, at, told)
 }
 
 // Whether the rest is the numbers told, and behind them a list with its length before it.
@@ -80,8 +49,5 @@ pub fn is_told_with(words: &[u16], at: usize, told: &[u64], list: &[u16]) -> boo
     if words.len() - at < told.len() {
         return false;
     }
-    if !begins(words, at, told) {
-        return false;
-    }
-    is_list(words, at + told.len(), list)
+    begins(words, at, told) && is_list(words, at + told.len(), list)
 }

@@ -2,29 +2,24 @@
 ghost use Rattle.std.specs.Prelude.{◌≤◌, length};
 ghost use Rattle.recorded.specs.Parts.{ListAt};
 
-use words::field::wide;
-
-// A part of a line, or that the line is too short for it.
+// A part of a line, from one place up to another.
 #[derive(Clone, Copy)]
-pub enum Part {
-    Words { from: usize, to: usize },
-    Missing,
+pub struct Part {
+    pub from: usize,
+    pub to: usize,
 }
 
-// The list whose length stands at a place.
-pub fn list_at(words: &[u16], at: usize) -> Part
+// The list whose length stands at a place, unless the line is too short for it.
+pub fn list_at(words: &[u16], at: usize) -> Option<Part>
     ensures { ListAt result words.now at }
 {
-    if at >= words.len() {
-        return Part::Missing;
-    }
+    let count = usize::from(*words.get(at)?);
     let from = at + 1;
-    let count = wide(words[at]);
     if count > words.len() - from {
-        return Part::Missing;
+        return None;
     }
-    Part::Words {
+    Some(Part {
         from,
         to: from + count,
-    }
+    })
 }

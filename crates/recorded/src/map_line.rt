@@ -2,7 +2,6 @@
 ghost use Rattle.std.specs.Prelude.{◌≤◌, length};
 
 use crate::laying::lay_map;
-use words::field::wide;
 
 // Lays the line's map from the first byte on, and answers how many bytes it has: none if the line is too short or the map too large.
 pub fn lay_line(words: &[u16], map: &mut [u8]) -> usize
@@ -11,12 +10,9 @@ pub fn lay_line(words: &[u16], map: &mut [u8]) -> usize
     if words.len() < 3 {
         return 0;
     }
-    let n = wide(words[1]);
-    let l = wide(words[2]);
-    if n > 512 {
-        return 0;
-    }
-    if l > 2048 {
+    let n = usize::from(words[1]);
+    let l = usize::from(words[2]);
+    if n > 512 || l > 2048 {
         return 0;
     }
     let end = 3 + 2 * n + 4 * l;
@@ -27,6 +23,6 @@ pub fn lay_line(words: &[u16], map: &mut [u8]) -> usize
     if size > map.len() {
         return 0;
     }
-    lay_map(&words[3..end], n, l, &mut map[0..size]);
+    lay_map(&words[3..end], n, l, &mut map[..size]);
     size
 }

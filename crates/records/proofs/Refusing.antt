@@ -1,17 +1,12 @@
 -- The first bad entry that a loop meets is the one that its refusal names; a loop that meets none passes.
 -- Rests on lists.First.
-use Prim.Native.Nat.{ℕ, ◌+◌, ◌≤◌, ◌<◌}
+use Prim.Native.Nat.{ℕ, ◌≤◌, ◌<◌}
 use native.Mathlib.Omega.{arith}
-use borrow.Author.Count.{below_more}
 use mathlib.Core.Path.{◌≡◌, sym, ap, ◌∙◌}
 use mathlib.Core.Bool.{Bool, true, false}
 use Rattle.lists.specs.Found.{first}
 use Rattle.lists.proofs.First.{first-is, first-none}
 use Rattle.paper.specs.Refusals.{passed, refusal, refuse}
-
-module _ (bad : ℕ → Bool) {v : ℕ} (fine : (u : ℕ) → u < v → bad u ≡ false) {r : Bool} (says : r ≡ bad v) where
-  pub next_fine : r ≡ false → (u : ℕ) → u < v + 1 → bad u ≡ false
-  next_fine e = below_more _ v fine (sym says ∙ e)
 
 module _ (number : ℕ) (bad : ℕ → Bool) (n : ℕ) {v : ℕ} (fine : (u : ℕ) → u < v → bad u ≡ false) where
   pub first_bad : v < n → {r : Bool} → r ≡ bad v → r ≡ true → refusal number v ≡ refuse number (first bad n)

@@ -2,13 +2,14 @@
 -- Rests on Slots' definitions and paper's Area (how long an area is).
 use Prim.Native.Nat.{ℕ, ◌+◌, ◌*◌, ◌≤◌, ◌<◌}
 use native.Mathlib.Omega.{arith}
-use borrow.Author.Tests.{le-leb, lt-leb, ne_eqb, not-true, not-false}
+use borrow.Author.Tests.{le-leb, lt-leb, ne_eqb}
 use mathlib.Core.Path.{◌≡◌, sym, ap, ap₂, ◌∙◌, subst}
 use mathlib.Core.Logic.{◌⊎◌, inl, inr}
 use mathlib.Core.Bool.{Bool, true, false, not, ◌&&◌}
 use mathlib.Core.List.{List}
 use lib.ListN.{length, get_or}
 use lib.Dec.{eqb, leb}
+use Rattle.std.proofs.lemmas.List.{get_or_default}
 use Rattle.lists.specs.Lists.{any}
 use Rattle.paper.specs.Intervals.{within}
 use Rattle.paper.specs.Records.{record_at}
@@ -17,7 +18,7 @@ use Rattle.tables.specs.declared.Layout.{Layout}
 use Rattle.tables.specs.Placed.{scratch_size}
 use Rattle.tables.specs.Usable.{Usable}
 use Rattle.records.specs.declared.layout.LineSlots.{LineSlots}
-use Rattle.records.specs.Slots.{inside_slot, SlotAt, SlotsAt, lines_here, position_here, NodeAt, inside_here, outside_here, straddles_here}
+use Rattle.records.specs.Slots.{inside_slot, SlotAt, SlotsAt, lines_here, position_here, inside_here, outside_here, straddles_here}
 
 -- in a usable area slots may be laid out
 pub slots_room : {b a : List ℕ} {at : Layout} → Usable b a at → at.scratch + scratch_size at.sizes ≤ 65536
@@ -35,7 +36,7 @@ module _ (a words : List ℕ) (slots : LineSlots) (q x : ℕ) {mark : ℕ} (is :
   unmarked e = ap by_mark (sym e ∙ is)
 
   module _ (set : mark ≡ 0 → ⊥) {slot : ℕ} (which : slot ≡ get_or a (slots.numbers + x) 0) where
-    pub whole : SlotAt a words slots x → 3 * slot + 2 < length words
+    whole : SlotAt a words slots x → 3 * slot + 2 < length words
     whole known = go known.whole
       where
         go : (get_or a (slots.marks + x) 0 ≡ 0) ⊎ (3 * get_or a (slots.numbers + x) 0 + 2 < length words) → 3 * slot + 2 < length words
@@ -51,9 +52,11 @@ module _ (a words : List ℕ) (slots : LineSlots) (q x : ℕ) {mark : ℕ} (is :
         (sym (ne_eqb mark 0 set) ∙ ap (λ (m : ℕ). eqb m 0) is)
 
     module _ {low : ℕ} (lowest : low ≡ get_or words (3 * slot + 1) 0) where
-      pub under-lowest : q < low → false ≡ inside_slot a words slots q x
+      pub under-lowest : q < low → leb low q ≡ inside_slot a words slots q x
       under-lowest h =
-          ap (λ (t : Bool). t && leb q (get_or words (3 * slot + 2) 0)) (sym (lt-leb low q h) ∙ ap (λ (w : ℕ). leb w q) lowest) ∙ by_record
+          lt-leb low q h
+          ∙ ap (λ (t : Bool). t && leb q (get_or words (3 * slot + 2) 0)) (sym (lt-leb low q h) ∙ ap (λ (w : ℕ). leb w q) lowest)
+          ∙ by_record
 
       pub from_lowest : low ≤ q → {high : ℕ} → high ≡ get_or words (3 * slot + 2) 0 → leb q high ≡ inside_slot a words slots q x
       from_lowest h {high} highest =
@@ -61,22 +64,23 @@ module _ (a words : List ℕ) (slots : LineSlots) (q x : ℕ) {mark : ℕ} (is :
 
 -- ---- a node's lines
 
-module _ (a words : List ℕ) (at : Layout) (slots : LineSlots) (v : ℕ) {lines : List ℕ} {q : ℕ} (are : lines ≡ lines_here a at v) (is : q ≡ position_here a at v) where
-  pub slots_read : NodeAt a words at slots v → SlotsAt a words slots lines
-  slots_read known = subst (SlotsAt a words slots) (sym are) known.slotted
+-- a line that was read from the list, wherever it stands there
+pub slot_of : {a words : List ℕ} {slots : LineSlots} {lines : List ℕ} → SlotsAt a words slots lines → {x : ℕ} (k : ℕ) → k < length lines → x ≡ get_or lines k x → SlotAt a words slots x
+slot_of {a} {words} {slots} {lines} known {x} k h e = subst (SlotAt a words slots) (get_or_default lines k 0 x h ∙ sym e) (known.each k h)
 
+module _ (a words : List ℕ) (at : Layout) (slots : LineSlots) (v : ℕ) {lines : List ℕ} {q : ℕ} (are : lines ≡ lines_here a at v) (is : q ≡ position_here a at v) where
   module _ {inner : Bool} (here : inner ≡ any (inside_slot a words slots q) lines) where
     pub node-inside : inner ≡ inside_here a words at slots v
     unfolding inside_here
     node-inside = here ∙ ap₂ (λ (p : ℕ) (xs : List ℕ). any (inside_slot a words slots p) xs) is are
 
-    pub nowhere_inside : not inner ≡ true → false ≡ straddles_here a words at slots v
+    pub nowhere_inside : inner ≡ false → inner ≡ straddles_here a words at slots v
     unfolding straddles_here
-    nowhere_inside e = ap (λ (t : Bool). t && outside_here a words at slots v) (sym (not-true inner e) ∙ node-inside)
+    nowhere_inside e = e ∙ ap (λ (t : Bool). t && outside_here a words at slots v) (sym e ∙ node-inside)
 
-    pub somewhere_inside : not inner ≡ false → {outer : Bool} → outer ≡ any (λ x. not (inside_slot a words slots q x)) lines
+    pub somewhere_inside : inner ≡ true → {outer : Bool} → outer ≡ any (λ x. not (inside_slot a words slots q x)) lines
         → outer ≡ straddles_here a words at slots v
     unfolding straddles_here outside_here
     somewhere_inside e there =
         there ∙ ap₂ (λ (p : ℕ) (xs : List ℕ). any (λ x. not (inside_slot a words slots p x)) xs) is are
-        ∙ ap (λ (t : Bool). t && outside_here a words at slots v) (sym (not-false inner e) ∙ node-inside)
+        ∙ ap (λ (t : Bool). t && outside_here a words at slots v) (sym e ∙ node-inside)

@@ -29,7 +29,7 @@ use Rattle.tables.proofs.Usable.{tables_still, still_usable}
 use Rattle.records.specs.Slots.{SlotsFit}
 use Rattle.records.specs.declared.layout.LineSlots.{LineSlots}
 use Rattle.records.specs.Tested.{Passed, RecordTested, AllTested}
-use Rattle.records.specs.declared.Checked.TheVariants.{Good, Refused}
+use Rattle.std.specs.Prelude.{Ok, Err}
 use Rattle.records.proofs.Reasons.{used, unused, is-good, few-records}
 use Rattle.records.proofs.Refusing.{first_bad, none_bad}
 
@@ -175,7 +175,7 @@ module _ {b a : List ℕ} {at : Layout} {slots : LineSlots} (usable : Usable b a
     fine : (j : ℕ) → j < i → bad_record b a words j ≡ false
     fine j h = bad_record-same (tables_still usable kept) words j ∙ before.good j h
 
-    pub bad_found : {count : ℕ} → i < count → {r : Bool} {m : List ℕ} → RecordTested b c at slots words i r m → not r ≡ true → AllTested b a at slots words count (Refused (BadRecord i)) m
+    pub bad_found : {count : ℕ} → i < count → {r : Bool} {m : List ℕ} → RecordTested b c at slots words i r m → not r ≡ true → AllTested b a at slots words count (Err (BadRecord i)) m
     bad_found {count} h {r} tested e =
         record {
           said = first_bad 12 (bad_record b a words) count fine h refl
@@ -184,7 +184,7 @@ module _ {b a : List ℕ} {at : Layout} {slots : LineSlots} (usable : Usable b a
           kept = within_both kept tested.kept;
         }
 
-    pub all-good : {count : ℕ} → i ≤ count → count ≤ i → AllTested b a at slots words count Good c
+    pub all-good : {count : ℕ} → i ≤ count → count ≤ i → AllTested b a at slots words count (Ok tt) c
     all-good {count} low high =
         record {
           said = none_bad 12 (bad_record b a words) count fine high;

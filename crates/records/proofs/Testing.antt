@@ -1,5 +1,5 @@
 -- The test of given records put together: a count beyond the buffer, 12 at a bad record, then what 13 says.
--- Rests on Meaning, Slotting, refusals' Answers and accepted_theory (the words in use alone decide).
+-- Rests on Meaning, Slotting and accepted_theory (the words in use alone decide).
 use Prim.Native.Nat.{ℕ, ◌*◌, ◌/◌, ◌≤◌, ◌<◌}
 use native.Mathlib.Omega.{arith}
 use borrow.Author.Tests.{lt-ltb, le-ltb}
@@ -16,7 +16,7 @@ use Rattle.accepted_theory.proofs.Records.{bad_record-same, rule13-same}
 use Rattle.accepted_theory.proofs.Refusals.{not_passed}
 use Rattle.refusals.specs.declared.Refusal.{Refusal}
 use Rattle.refusals.specs.declared.Refusal.TheVariants.{BadRecord}
-use Rattle.refusals.proofs.Answers.{ruled_injective}
+use Rattle.refusals.specs.Said.{ruling_of}
 use Rattle.tables.specs.declared.Layout.{Layout}
 use Rattle.tables.specs.Usable.{Usable}
 use Rattle.tables.specs.Recorded.{Recorded, Slotted}
@@ -24,9 +24,8 @@ use Rattle.tables.proofs.Within.{within_none}
 use Rattle.tables.proofs.Usable.{tables_still, still_usable}
 use Rattle.records.specs.declared.layout.LineSlots.{LineSlots}
 use Rattle.records.specs.Slots.{SlotsFit, NodeAt, straddles_here}
-use Rattle.records.specs.Tested.{Passed, AllTested, Tested, checked_said}
-use Rattle.records.specs.declared.Checked.{Checked}
-use Rattle.records.specs.declared.Checked.TheVariants.{Good, Refused}
+use Rattle.std.specs.Prelude.{Result, Ok, Err}
+use Rattle.records.specs.Tested.{Passed, AllTested, Tested}
 use Rattle.records.proofs.Meaning.{node_at, rule13-is}
 
 -- the first of two rulings
@@ -43,7 +42,7 @@ passed_first e w = alone w ∙ ap (λ (u : Ruling). decide (u ∷ (w ∷ []))) e
     alone (refusal n v) = refl
 
 -- "A record count beyond the buffer gives 12 with the number of whole records as place, before any record is read"
-pub beyond : (b a : List ℕ) (at : Layout) (slots : LineSlots) (words : List ℕ) {count : ℕ} → length words / 3 < count → Tested b a at slots words count (Refused (BadRecord (length words / 3))) a
+pub beyond : (b a : List ℕ) (at : Layout) (slots : LineSlots) (words : List ℕ) {count : ℕ} → length words / 3 < count → Tested b a at slots words count (Err (BadRecord (length words / 3))) a
 unfolding rule12 whole_records
 beyond b a at slots words {count} h =
     record {
@@ -56,28 +55,25 @@ beyond b a at slots words {count} h =
 pub within-buffer : (words : List ℕ) {count : ℕ} → count ≤ length words / 3 → 3 * count ≤ length words
 within-buffer words h = omega arith
 
-module _ {b a : List ℕ} {at : Layout} {slots : LineSlots} (usable : Usable b a at) {words : List ℕ} {count : ℕ} (fits : count ≤ length words / 3) {found : Checked} {m : List ℕ} (tested : AllTested b a at slots words count found m) where
-  by_12 : checked_said found ≡ rule12 b a words count
+module _ {b a : List ℕ} {at : Layout} {slots : LineSlots} (usable : Usable b a at) {words : List ℕ} {count : ℕ} (fits : count ≤ length words / 3) {m : List ℕ} where
+  by_12 : {found : Result (Unit {0}) Refusal} → AllTested b a at slots words count found m → ruling_of found ≡ rule12 b a words count
   unfolding rule12 whole_records
-  by_12 =
+  by_12 tested =
       tested.said
       ∙ ap (λ (t : Bool). cond t (refusal 12 (length words / 3)) (refuse 12 (first (bad_record b a words) count))) (sym (le-ltb (length words / 3) count fits))
 
-  pub bad_record_lem : {x : Refusal} → found ≡ Refused x → Tested b a at slots words count found m
-  bad_record_lem {x} e =
+  pub bad_record_lem : {x : Refusal} → AllTested b a at slots words count (Err x) m → Tested b a at slots words count (Err x) m
+  bad_record_lem tested =
       record {
-        said = ap checked_said e ∙ refused_first (ap checked_said (sym e) ∙ by_12) (rule13 b a (records_in words count));
-        slotted = λ f. absurd (refuses f);
-        recorded = λ f. absurd (refuses f);
+        said = refused_first (by_12 tested) (rule13 b a (records_in words count));
+        slotted = λ f. absurd (not_passed f);
+        recorded = λ f. absurd (not_passed f);
         kept = tested.kept;
       }
-    where
-      refuses : checked_said found ≡ passed → ⊥
-      refuses f = not_passed (ap checked_said (sym e) ∙ f)
 
-  module _ (good : found ≡ Good) where
+  module _ (tested : AllTested b a at slots words count (Ok tt) m) where
     before : Passed b m slots words count
-    before = tested.good (ap checked_said good)
+    before = tested.good refl
 
     same : SameTables b a m
     same = tables_still usable tested.kept
@@ -88,12 +84,12 @@ module _ {b a : List ℕ} {at : Layout} {slots : LineSlots} (usable : Usable b a
     pub nodes-there : SlotsFit at slots → (v : ℕ) → v < at.sizes.nodes → NodeAt m words at slots v
     nodes-there fit v known = node_at (still_usable usable tested.kept) recorded-there before.slotted v known fit
 
-    pub all_tested : {r : Checked} → checked_said r ≡ refuse 13 (first (straddles_here m words at slots) at.sizes.nodes) → Tested b a at slots words count r m
+    pub all_tested : {r : Result (Unit {0}) Refusal} → ruling_of r ≡ refuse 13 (first (straddles_here m words at slots) at.sizes.nodes) → Tested b a at slots words count r m
     all_tested said =
         record {
           said =
               said ∙ rule13-is (still_usable usable tested.kept) recorded-there before.slotted ∙ sym (rule13-same same (records_in words count))
-              ∙ passed_first (ap checked_said (sym good) ∙ by_12) (rule13 b a (records_in words count));
+              ∙ passed_first (by_12 tested) (rule13 b a (records_in words count));
           slotted = λ e. subst (Slotted m words count slots.numbers slots.marks) (sym same.count) before.slotted;
           recorded = λ e. record { fits = within-buffer words fits; good = λ i h. bad_record-same same words i ∙ before.good i h };
           kept = tested.kept;
@@ -101,7 +97,7 @@ module _ {b a : List ℕ} {at : Layout} {slots : LineSlots} (usable : Usable b a
 
 -- ---- what stands in the area that the test leaves, for the calls that go on from there
 
-module _ {b a : List ℕ} {at : Layout} {slots : LineSlots} (usable : Usable b a at) {words : List ℕ} {count : ℕ} {r : Checked} {m : List ℕ} (tested : Tested b a at slots words count r m) (good : checked_said r ≡ passed) where
+module _ {b a : List ℕ} {at : Layout} {slots : LineSlots} (usable : Usable b a at) {words : List ℕ} {count : ℕ} {r : Result (Unit {0}) Refusal} {m : List ℕ} (tested : Tested b a at slots words count r m) (good : ruling_of r ≡ passed) where
   pub recorded-after : Recorded b m words count
   recorded-after =
       record {
@@ -112,11 +108,3 @@ module _ {b a : List ℕ} {at : Layout} {slots : LineSlots} (usable : Usable b a
   pub slotted-after : Slotted m words count slots.numbers slots.marks (K b m)
   slotted-after =
       subst (Slotted m words count slots.numbers slots.marks) (tables_still usable tested.kept).count (tested.slotted good)
-
--- ---- the answer's meaning tells its cases apart
-
-pub checked_said_injective : (r s : Checked) → checked_said r ≡ checked_said s → r ≡ s
-checked_said_injective Good Good e = refl
-checked_said_injective Good (Refused y) e = absurd (not_passed (sym e))
-checked_said_injective (Refused x) Good e = absurd (not_passed e)
-checked_said_injective (Refused x) (Refused y) e = ap Refused (ruled_injective x y e)

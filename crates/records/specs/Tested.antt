@@ -1,22 +1,16 @@
 -- What testing given records says, in 01's numbers and places, and what it leaves in the scratch.
 -- Rests on Slots, paper's Refusals and refusals' Said.
-use Rattle.std.specs.Prelude.{ℕ, ◌+◌, ◌<◌, ◌≡◌, Bool, true, false, not, List, [], ◌∷◌}
+use Rattle.std.specs.Prelude.{ℕ, ◌+◌, ◌<◌, ◌≡◌, Bool, true, false, not, List, [], ◌∷◌, Result}
 use Rattle.lists.specs.Found.{first}
 use Rattle.paper.specs.Area.{K}
 use Rattle.paper.specs.Records.{records_in}
-use Rattle.paper.specs.Refusals.{Ruling, passed, refuse, bad_record, rule12, rule13, decide}
-use Rattle.refusals.specs.Said.{ruled}
+use Rattle.paper.specs.Refusals.{passed, refuse, bad_record, rule12, rule13, decide}
+use Rattle.refusals.specs.Said.{ruling_of}
+use Rattle.refusals.specs.declared.Refusal.{Refusal}
 use Rattle.tables.specs.declared.Layout.{Layout}
 use Rattle.tables.specs.Usable.{Scratched}
 use Rattle.tables.specs.Recorded.{Recorded, Slotted}
 use Rattle.records.specs.declared.layout.LineSlots.{LineSlots}
-use Rattle.records.specs.declared.Checked.{Checked}
-use Rattle.records.specs.declared.Checked.TheVariants.{Good, Refused}
-
--- 01's number and place for each case
-abbrev pub checked_said : Checked → Ruling
-checked_said Good = passed
-checked_said (Refused x) = ruled x
 
 -- the first i records are good, and for each line a slot and a mark tell which of them is its
 pub record Passed (b a : List ℕ) (slots : LineSlots) (words : List ℕ) (i : ℕ) : Type 0 where
@@ -30,14 +24,14 @@ pub record RecordTested (b a : List ℕ) (at : Layout) (slots : LineSlots) (word
   pub kept : Scratched at a m
 
 -- .. and testing all of them by 12
-pub record AllTested (b a : List ℕ) (at : Layout) (slots : LineSlots) (words : List ℕ) (count : ℕ) (r : Checked) (m : List ℕ) : Type 0 where
-  pub said : checked_said r ≡ refuse 12 (first (bad_record b a words) count)
-  pub good : checked_said r ≡ passed → Passed b m slots words count
+pub record AllTested (b a : List ℕ) (at : Layout) (slots : LineSlots) (words : List ℕ) (count : ℕ) (r : Result (Unit {0}) Refusal) (m : List ℕ) : Type 0 where
+  pub said : ruling_of r ≡ refuse 12 (first (bad_record b a words) count)
+  pub good : ruling_of r ≡ passed → Passed b m slots words count
   pub kept : Scratched at a m
 
 -- .. and by 12 and 13
-pub record Tested (b a : List ℕ) (at : Layout) (slots : LineSlots) (words : List ℕ) (count : ℕ) (r : Checked) (m : List ℕ) : Type 0 where
-  pub said : checked_said r ≡ decide (rule12 b a words count ∷ (rule13 b a (records_in words count) ∷ []))
-  pub slotted : checked_said r ≡ passed → Slotted m words count slots.numbers slots.marks (K b a)
-  pub recorded : checked_said r ≡ passed → Recorded b a words count
+pub record Tested (b a : List ℕ) (at : Layout) (slots : LineSlots) (words : List ℕ) (count : ℕ) (r : Result (Unit {0}) Refusal) (m : List ℕ) : Type 0 where
+  pub said : ruling_of r ≡ decide (rule12 b a words count ∷ (rule13 b a (records_in words count) ∷ []))
+  pub slotted : ruling_of r ≡ passed → Slotted m words count slots.numbers slots.marks (K b a)
+  pub recorded : ruling_of r ≡ passed → Recorded b a words count
   pub kept : Scratched at a m

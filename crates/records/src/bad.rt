@@ -7,10 +7,8 @@ ghost use Rattle.records.specs.Slots.{SlotsFit};
 ghost use Rattle.records.specs.Tested.{Passed, RecordTested};
 
 use crate::layout::LineSlots;
-use lookup::Index;
 use on_line::index_on;
 use tables::Layout;
-use words::field::wide;
 use words::section::word_at;
 
 // Whether a node of line x stands at a position.
@@ -19,10 +17,7 @@ fn stands_on(b: &[u8], at: Layout, area: &[u16], x: usize, pos: usize) -> bool
     requires x_bound { x < K b.now area.now }
     ensures { result ≡ on_line b.now area.now x pos }
 {
-    let Index::At(_) = index_on(area, at, x, pos) else {
-        return false;
-    };
-    true
+    index_on(area, at, x, pos).is_some()
 }
 
 // Whether record i is bad, where the records before it are good and their lines are marked.
@@ -34,10 +29,10 @@ fn is_bad(b: &[u8], at: Layout, area: &[u16], slots: LineSlots, words: &[u16], i
     ensures { result ≡ bad_record b.now area.now words.now i }
 {
     let first = 3 * i;
-    let line = wide(words[first]);
+    let line = usize::from(words[first]);
     let lowest = word_at(words, first, 1);
     let highest = word_at(words, first, 2);
-    if line >= wide(area[0]) {
+    if line >= usize::from(area[0]) {
         return true;
     }
     if word_at(area, slots.marks, line) != 0 {
@@ -70,7 +65,7 @@ pub fn check_record(
     if is_bad(b, at, area, slots, words, i) {
         return false;
     }
-    let line = wide(words[3 * i]);
+    let line = usize::from(words[3 * i]);
     area[slots.numbers + line] = i as u16;
     area[slots.marks + line] = 1;
     true

@@ -5,7 +5,6 @@ ghost use Rattle.records.specs.Slots.{NodeAt, SlotAt, SlotsAt, inside_here, insi
 
 use crate::layout::LineSlots;
 use tables::{Layout, entries};
-use words::field::wide;
 use words::section::word_at;
 
 // Whether a position on line x lies inside the line's record; a line with no record is outside.
@@ -17,10 +16,7 @@ pub fn inside_on(area: &[u16], slots: LineSlots, words: &[u16], x: usize, pos: u
         return false;
     }
     let first = 3 * word_at(area, slots.numbers, x);
-    if pos < word_at(words, first, 1) {
-        return false;
-    }
-    pos <= word_at(words, first, 2)
+    word_at(words, first, 1) <= pos && pos <= word_at(words, first, 2)
 }
 
 // Whether a position is inside on one of the lines.
@@ -28,14 +24,9 @@ fn inside_on_some(area: &[u16], slots: LineSlots, words: &[u16], lines: &[u16], 
     requires { SlotsAt area.now words.now slots lines.now }
     ensures { result ≡ any (inside_slot area.now words.now slots pos) lines.now }
 {
-    let mut i = 0;
-    while i < lines.len() {
-        if inside_on(area, slots, words, wide(lines[i]), pos) {
-            return true;
-        }
-        i += 1;
-    }
-    false
+    lines
+        .iter()
+        .any(|x| inside_on(area, slots, words, usize::from(*x), pos))
 }
 
 // Whether a position is outside on one of the lines.
@@ -43,14 +34,9 @@ fn outside_on_some(area: &[u16], slots: LineSlots, words: &[u16], lines: &[u16],
     requires { SlotsAt area.now words.now slots lines.now }
     ensures { result ≡ any (λ x. not (inside_slot area.now words.now slots pos x)) lines.now }
 {
-    let mut i = 0;
-    while i < lines.len() {
-        if !inside_on(area, slots, words, wide(lines[i]), pos) {
-            return true;
-        }
-        i += 1;
-    }
-    false
+    lines
+        .iter()
+        .any(|x| !inside_on(area, slots, words, usize::from(*x), pos))
 }
 
 // Whether node v lies inside the records on one of its lines.
@@ -70,8 +56,6 @@ pub fn straddles(area: &[u16], at: Layout, slots: LineSlots, words: &[u16], v: u
 {
     let lines = entries(area, at.begins, at.lines, v);
     let pos = word_at(area, at.positions, v);
-    if !inside_on_some(area, slots, words, lines, pos) {
-        return false;
-    }
-    outside_on_some(area, slots, words, lines, pos)
+    inside_on_some(area, slots, words, lines, pos)
+        && outside_on_some(area, slots, words, lines, pos)
 }

@@ -19,8 +19,5 @@ pub fn lay_slots(at: Layout) -> LineSlots
 {
     let numbers = at.scratch;
     let marks = numbers + (at.sizes.nodes + at.sizes.links);
-    LineSlots {
-        numbers: numbers,
-        marks: marks,
-    }
+    LineSlots { numbers, marks }
 }

@@ -5,13 +5,13 @@ pub mod bad;
 pub mod inside;
 pub mod layout;
 
-ghost use Rattle.std.specs.Prelude.{◌≡◌, ◌≢◌, ℕ, ◌*◌, ◌≤◌, ◌<◌, length};
+ghost use Rattle.std.specs.Prelude.{◌≡◌, ℕ, ◌*◌, ◌≤◌, ◌<◌, length};
 ghost use Rattle.lists.specs.Found.{first};
-ghost use Rattle.paper.specs.Refusals.{passed, refuse};
-ghost use Rattle.refusals.specs.Said.{ruled};
+ghost use Rattle.paper.specs.Refusals.{refuse};
+ghost use Rattle.refusals.specs.Said.{ruling_of};
 ghost use Rattle.tables.specs.Usable.{Usable};
 ghost use Rattle.records.specs.Slots.{NodeAt, SlotsFit, straddles_here};
-ghost use Rattle.records.specs.Tested.{AllTested, Tested, checked_said};
+ghost use Rattle.records.specs.Tested.{AllTested, Tested};
 
 use bad::check_record;
 use inside::straddles;
@@ -19,24 +19,6 @@ use layout::LineSlots;
 use refusals::Refusal;
 use tables::Layout;
 use words::section::fill;
-
-// What the test of given records comes to: that they may be used, or refusal 12 or 13.
-#[derive(Clone, Copy)]
-pub enum Checked {
-    Good,
-    Refused(Refusal),
-}
-
-// The refusal of records that may not be used: a caller that has taken `Good` apart never asks for one.
-pub fn record_refusal(checked: Checked) -> Refusal
-    requires { checked_said checked ≢ passed }
-    ensures { ruled result ≡ checked_said checked }
-{
-    let Checked::Refused(x) = checked else {
-        unreachable!();
-    };
-    x
-}
 
 // Tests the records one by one until one is bad: refusal 12. Each line of a good one gets a mark, and the record's number in its slot.
 fn slot_records(
@@ -46,36 +28,32 @@ fn slot_records(
     slots: LineSlots,
     words: &[u16],
     count: usize,
-) -> Checked
+) -> Result<(), Refusal>
     requires usable { Usable b.now area.old at }
     requires slots_fit { SlotsFit at slots }
     requires count_in_bounds { 3 * count ≤ length words.now }
     ensures { AllTested b.now area.old at slots words.now count result area.new }
 {
     fill(area, slots.marks, at.sizes.nodes + at.sizes.links, 0);
-    let mut i = 0;
-    while i < count {
+    for i in 0..count {
         if !check_record(b, at, area, slots, words, i) {
-            return Checked::Refused(Refusal::BadRecord(i));
+            return Err(Refusal::BadRecord(i));
         }
-        i += 1;
     }
-    Checked::Good
+    Ok(())
 }
 
 // Looks for the lowest node that is inside on one line and outside on another: refusal 13.
-fn find_straddling(area: &[u16], at: Layout, slots: LineSlots, words: &[u16]) -> Checked
+fn find_straddling(area: &[u16], at: Layout, slots: LineSlots, words: &[u16]) -> Result<(), Refusal>
     requires { (v : ℕ) → v < at.sizes.nodes → NodeAt area.now words.now at slots v }
-    ensures { checked_said result ≡ refuse 13 (first (straddles_here area.now words.now at slots) at.sizes.nodes) }
+    ensures { ruling_of result ≡ refuse 13 (first (straddles_here area.now words.now at slots) at.sizes.nodes) }
 {
-    let mut v = 0;
-    while v < at.sizes.nodes {
+    for v in 0..at.sizes.nodes {
         if straddles(area, at, slots, words, v) {
-            return Checked::Refused(Refusal::Straddling(v));
+            return Err(Refusal::Straddling(v));
         }
-        v += 1;
     }
-    Checked::Good
+    Ok(())
 }
 
 // Tests `count` records by 12 and 13. A count beyond the buffer is refused before any record is read.
@@ -86,18 +64,15 @@ pub fn check_records(
     slots: LineSlots,
     words: &[u16],
     count: usize,
-) -> Checked
+) -> Result<(), Refusal>
     requires usable { Usable b.now area.old at }
     requires slots_fit { SlotsFit at slots }
     ensures { Tested b.now area.old at slots words.now count result area.new }
 {
     let whole = words.len() / 3;
     if whole < count {
-        return Checked::Refused(Refusal::BadRecord(whole));
+        return Err(Refusal::BadRecord(whole));
     }
-    let found = slot_records(b, at, area, slots, words, count);
-    let Checked::Good = found else {
-        return found;
-    };
+    slot_records(b, at, area, slots, words, count)?;
     find_straddling(area, at, slots, words)
 }

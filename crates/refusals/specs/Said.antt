@@ -1,6 +1,6 @@
 -- The number and the place that 01's table gives for each reason.
 -- Rests on paper's Refusals.
-use Rattle.std.specs.Prelude.{ℕ}
+use Rattle.std.specs.Prelude.{ℕ, Result, Ok, Err}
 use Rattle.paper.specs.Refusals.{Ruling, passed, refusal, Answer, refused, answered}
 use Rattle.refusals.specs.declared.Refusal.{Refusal}
 use Rattle.refusals.specs.declared.Refusal.TheVariants.{
@@ -65,3 +65,13 @@ module _ {A : Type 0} where
   unfoldable pub ruling : Answer A → Ruling
   ruling (refused n v) = refusal n v
   ruling (answered x) = passed
+
+  -- what a step that may refuse comes to: its value, or its refusal's number and place
+  abbrev pub answer_of : Result A Refusal → Answer A
+  answer_of (Ok x) = answered x
+  answer_of (Err x) = refused_by x
+
+  -- .. and what it says of its rules alone
+  abbrev pub ruling_of : Result A Refusal → Ruling
+  ruling_of (Ok x) = passed
+  ruling_of (Err x) = ruled x

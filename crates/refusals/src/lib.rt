@@ -1,4 +1,4 @@
-// The refusals of 01's table that a call can give, each reason a case with its place; 15 is the program's own.
+// The refusals of 01's table that a call can give, each reason a case with its place; 15 is the program's own. The error of every step that may refuse.
 #![tactic(auto)]
 
 ghost use Rattle.std.specs.Prelude.{◌≡◌};
@@ -22,7 +22,7 @@ pub enum Refusal {
     TooLong(usize),
 }
 
-// A refusal's number in 01's table.
+// A refusal's number in 01's table. The numbers are told to hosts, and are not the order of the cases, so each is written out.
 pub fn number(x: Refusal) -> usize
     ensures { result ≡ number_of x }
 {

@@ -5,11 +5,10 @@ use native.Mathlib.Omega.{arith}
 use mathlib.Core.Path.{◌≡◌, subst}
 use mathlib.Core.List.{List}
 use lib.ListN.{length}
+use Rattle.std.proofs.Common.{Option, Some}
 use Rattle.paper.specs.Text.{newline}
 use Rattle.text.specs.Lists.{how_many}
 use Rattle.text.specs.Parts.{part_end}
-use Rattle.text.specs.declared.reader.ListRead.{ListRead}
-use Rattle.text.specs.declared.reader.ListRead.TheVariants.{Numbers}
 use Rattle.text.proofs.Split.{part-starts, part-within}
 use Rattle.recorded.proofs.Bounds.{Within}
 
@@ -17,5 +16,5 @@ pub line-within : (file : List ℕ) (at : ℕ) {end : ℕ} → at ≤ length fil
 line-within file at h e =
     record { ordered = omega (arith, e, part-starts newline file at); inside = omega (arith, e, part-within newline file at h) }
 
-pub few : {answer : ListRead} {count : ℕ} (words : List ℕ) → how_many answer ≤ length words → answer ≡ Numbers count → count ≤ length words
-few words h e = subst (λ (a : ListRead). how_many a ≤ length words) e h
+pub few : {answer : Option ℕ} {count : ℕ} (words : List ℕ) → how_many answer ≤ length words → answer ≡ Some count → count ≤ length words
+few words h e = subst (λ (a : Option ℕ). how_many a ≤ length words) e h

@@ -1,9 +1,8 @@
 -- A part that lies within so many words.
 -- Rests on recorded's parts.
-use Rattle.std.specs.Prelude.{ℕ, ◌≤◌}
+use Rattle.std.specs.Prelude.{ℕ, ◌≤◌, Option, None, Some}
 use Rattle.recorded.specs.declared.line_parts.Part.{Part}
-use Rattle.recorded.specs.declared.line_parts.Part.TheVariants.{Words, Missing}
 
-unfoldable pub Inside : Part → ℕ → Type 0
-Inside (Words from to) size = (from ≤ to) × (to ≤ size)
-Inside Missing size = Unit {0}
+unfoldable pub Inside : Option Part → ℕ → Type 0
+Inside (Some part) size = (part.from ≤ part.to) × (part.to ≤ size)
+Inside None size = Unit {0}

@@ -7,21 +7,13 @@ mod turns;
 
 ghost use Rattle.std.specs.Prelude.{◌≡◌, length};
 
-use lent::area_room;
 use reading::read_full;
 use std::io::Write;
 use std::rt::Files;
 use std::{fs, io};
-use tallying::{count_turn, tally, write_tally};
+use tallying::{UNREADABLE, count_turn, tally, write_tally};
 use text::parts::line_end;
-use turns::{Turn, map_room, replay_line, start, word_room};
-
-// Room for the file, which has some 360,000 bytes.
-fn file_room() -> [u8; 400000]
-    ensures { length result ≡ 400000 }
-{
-    [0u8; 400000]
-}
+use turns::{Outcome, Turn, replay_line, start};
 
 // Says which line differs, by its number from 1.
 fn write_differing(out: &mut impl Write, number: usize) -> io::Result<()> {
@@ -36,12 +28,14 @@ fn tell(
     asked: &mut [usize],
     differing: &mut [usize],
 ) -> io::Result<()> {
-    if turn.silent {
-        return Ok(());
-    }
-    count_turn(asked, turn.kind);
-    if !turn.agrees {
-        count_turn(differing, turn.kind);
+    let (kind, agrees) = match turn.outcome {
+        Outcome::Silent => return Ok(()),
+        Outcome::Unread => (UNREADABLE, false),
+        Outcome::Read(kind, agrees) => (kind.number(), agrees),
+    };
+    count_turn(asked, kind);
+    if !agrees {
+        count_turn(differing, kind);
         write_differing(out, number)?;
     }
     Ok(())
@@ -61,6 +55,7 @@ fn replay_lines(
     let mut turn = start();
     let mut at = 0;
     let mut number: usize = 0;
+    // Each turn goes on behind its line, so no range counts the places.
     while at < file.len() {
         let end = line_end(file, at);
         turn = replay_line(&file[at..end], turn, words, map, area, kept);
@@ -73,10 +68,13 @@ fn replay_lines(
 
 // Replays the whole file, and writes what was counted.
 fn replay(out: &mut impl Write, file: &[u8]) -> io::Result<()> {
-    let mut words = word_room();
-    let mut map = map_room();
-    let mut area = area_room();
-    let mut kept = area_room();
+    // Room for the numbers of a line of 65,000 bytes.
+    let mut words = [0u16; 32501];
+    // Room for the largest map.
+    let mut map = [0u8; 18444];
+    // Room for the largest W, and eight words past it.
+    let mut area = [0u16; 31759];
+    let mut kept = [0u16; 31759];
     let mut asked = tally();
     let mut differing = tally();
     let sum = replay_lines(
@@ -99,7 +97,8 @@ pub fn run<R: Files + Print>(rt: &R) -> io::Result<()> {
     let Ok(mut file) = fs::open(rt, "answers.txt") else {
         return writeln!(out, "no answers");
     };
-    let mut bytes = file_room();
+    // Room for the file, which has some 360,000 bytes.
+    let mut bytes = [0u8; 400000];
     let count = read_full(&mut file, &mut bytes)?;
     replay(&mut out, &bytes[..count])
 }

@@ -11,18 +11,26 @@ use record_questions::{prepares_to, same_extension, same_nodes, same_record_chec
 use recorded::comparing::same_words;
 use recorded::map_line::lay_line;
 use recorded::sections::same_section;
-use text::reader::{ListRead, read_list};
-use words::field::wide;
+use tallying::kind::{Kind, Question};
+use text::reader::read_list;
 
-// What a line came to: how many bytes the last map has, the checksum so far, the line's kind, 0 if it could not be read, whether the answers agree,
-// and whether the line is one of the head, which says nothing.
+// What a line came to.
+#[derive(Clone, Copy)]
+pub enum Outcome {
+    // It is one of the head, which says nothing.
+    Silent,
+    // It could not be read, or its number is no kind's: it differs.
+    Unread,
+    // It is of a kind, and it agrees or not.
+    Read(Kind, bool),
+}
+
+// What stands behind a line: how many bytes the last map has, the checksum so far, and what the line came to.
 #[derive(Clone, Copy)]
 pub struct Turn {
     pub size: usize,
     pub sum: usize,
-    pub kind: usize,
-    pub agrees: bool,
-    pub silent: bool,
+    pub outcome: Outcome,
 }
 
 // Before the first line.
@@ -30,24 +38,8 @@ pub fn start() -> Turn {
     Turn {
         size: 0,
         sum: 0,
-        kind: 0,
-        agrees: true,
-        silent: true,
+        outcome: Outcome::Silent,
     }
-}
-
-// Room for the largest map.
-pub fn map_room() -> [u8; 18444]
-    ensures { length result ≡ 18444 }
-{
-    [0u8; 18444]
-}
-
-// Room for the numbers of a line of 65,000 bytes.
-pub fn word_room() -> [u16; 32501]
-    ensures { length result ≡ 32501 }
-{
-    [0u16; 32501]
 }
 
 // Adds words to a checksum: each to 257 times what stands before it, modulo a prime, so that one changed number always shows.
@@ -56,58 +48,36 @@ fn add_words(before: usize, words: &[u16]) -> usize
 {
     let mut sum: usize = before % 4294967291;
     for word in words {
-        sum = (sum * 257 + wide(*word)) % 4294967291;
+        sum = (sum * 257 + usize::from(*word)) % 4294967291;
     }
     sum
 }
 
-// Asks about a list of nodes or a port.
-fn ask_list(kind: usize, words: &[u16], map: &[u8], area: &mut [u16]) -> bool {
-    if kind == 8 {
-        return same_line_check(words, map, area);
-    }
-    if kind == 9 {
-        return same_order_check(words, map, area);
-    }
-    if kind == 11 {
-        return same_intervals(words, map, area);
-    }
-    if kind == 14 {
-        return same_port_lines(words, map, area);
-    }
-    if kind == 15 {
-        return same_line_ports(words, map, area);
-    }
-    if kind == 16 {
-        return same_order_ports(words, map, area);
-    }
-    false
-}
-
 // Asks a line's question.
-fn ask(kind: usize, words: &[u16], map: &[u8], area: &mut [u16]) -> bool {
-    if kind == 10 {
-        return same_record_check(words, map, area);
+fn ask(question: Question, words: &[u16], map: &[u8], area: &mut [u16]) -> bool {
+    match question {
+        Question::LineCheck => same_line_check(words, map, area),
+        Question::OrderCheck => same_order_check(words, map, area),
+        Question::RecordCheck => same_record_check(words, map, area),
+        Question::Intervals => same_intervals(words, map, area),
+        Question::Extension => same_extension(words, map, area),
+        Question::Nodes => same_nodes(words, map, area),
+        Question::PortLines => same_port_lines(words, map, area),
+        Question::LinePorts => same_line_ports(words, map, area),
+        Question::OrderPorts => same_order_ports(words, map, area),
     }
-    if kind == 12 {
-        return same_extension(words, map, area);
-    }
-    if kind == 13 {
-        return same_nodes(words, map, area);
-    }
-    ask_list(kind, words, map, area)
 }
 
-// Asks a line's question with a scratch that is not 0, and compares the whole area with what preparing left. A table is only looked at.
-fn ask_again(kind: usize, words: &[u16], map: &[u8], area: &mut [u16], kept: &[u16]) -> bool {
-    if kind < 8 {
-        return same_section(kind, words, map, area);
-    }
+// Asks a line's question with a scratch that is not 0, and compares the whole area with what preparing left.
+fn ask_again(
+    question: Question,
+    words: &[u16],
+    map: &[u8],
+    area: &mut [u16],
+    kept: &[u16],
+) -> bool {
     mark_scratch(map, area);
-    if !ask(kind, words, map, area) {
-        return false;
-    }
-    same_words(area, kept)
+    ask(question, words, map, area) && same_words(area, kept)
 }
 
 // Prepares a line's map in an area that is marked, and keeps what it left.
@@ -115,18 +85,44 @@ fn prepare_again(words: &[u16], map: &[u8], area: &mut [u16], kept: &mut [u16]) 
     spoil(area);
     let answers = prepares_to(map, area, words);
     let stands = keep(map, area, kept);
-    if !answers {
-        return false;
-    }
-    stands
+    answers && stands
 }
 
-// A line's kind, or 0 if there is no such kind.
-fn known(kind: usize) -> usize {
-    if kind > 16 {
-        return 0;
+// Replays a line of a kind on a map of so many bytes, and answers how many its map has then, and whether the line agrees. A table is only looked at.
+fn replay_kind(
+    kind: Kind,
+    words: &[u16],
+    size: usize,
+    map: &mut [u8],
+    area: &mut [u16],
+    kept: &mut [u16],
+) -> (usize, bool)
+    requires { size ≤ length map.old }
+{
+    match kind {
+        Kind::Map => {
+            let size = lay_line(words, map);
+            (size, prepare_again(words, &map[..size], area, kept))
+        }
+        Kind::Written(table) => (size, same_section(table, words, &map[..size], area)),
+        Kind::Asked(question) => (size, ask_again(question, words, &map[..size], area, kept)),
     }
-    kind
+}
+
+// A line that could not be read: nothing else changes.
+fn unread(before: Turn) -> Turn {
+    Turn {
+        outcome: Outcome::Unread,
+        ..before
+    }
+}
+
+// A line of the head.
+fn passed_over(before: Turn) -> Turn {
+    Turn {
+        outcome: Outcome::Silent,
+        ..before
+    }
 }
 
 // Replays a line by its words, of which there is one at least.
@@ -140,51 +136,20 @@ fn replay_words(
     requires { 1 ≤ length words.now }
 {
     let sum = add_words(before.sum, words);
-    let kind = known(wide(words[0]));
-    if kind == 1 {
-        let size = lay_line(words, map);
-        let agrees = prepare_again(words, &map[0..size], area, kept);
+    let Some(kind) = Kind::numbered(usize::from(words[0])) else {
         return Turn {
-            size,
             sum,
-            kind,
-            agrees,
-            silent: false,
+            ..unread(before)
         };
-    }
-    let size = before.size;
-    if size > map.len() {
+    };
+    if before.size > map.len() {
         return unread(before);
     }
-    let agrees = ask_again(kind, words, &map[0..size], area, kept);
+    let (size, agrees) = replay_kind(kind, words, before.size, map, area, kept);
     Turn {
         size,
         sum,
-        kind,
-        agrees,
-        silent: false,
-    }
-}
-
-// A line that could not be read: it differs, and nothing else changes.
-fn unread(before: Turn) -> Turn {
-    Turn {
-        size: before.size,
-        sum: before.sum,
-        kind: 0,
-        agrees: false,
-        silent: false,
-    }
-}
-
-// A line of the head.
-fn passed_over(before: Turn) -> Turn {
-    Turn {
-        size: before.size,
-        sum: before.sum,
-        kind: 0,
-        agrees: true,
-        silent: true,
+        outcome: Outcome::Read(kind, agrees),
     }
 }
 
@@ -197,7 +162,7 @@ pub fn replay_line(
     area: &mut [u16],
     kept: &mut [u16],
 ) -> Turn {
-    if line.len() == 0 {
+    if line.is_empty() {
         return unread(before);
     }
     if line[0] == b'#' {
@@ -206,12 +171,11 @@ pub fn replay_line(
     if line.len() / 2 >= words.len() {
         return unread(before);
     }
-    let read = read_list(line, words);
-    let ListRead::Numbers(count) = read else {
+    let Some(count) = read_list(line, words) else {
         return unread(before);
     };
     if count == 0 {
         return unread(before);
     }
-    replay_words(&words[0..count], before, map, area, kept)
+    replay_words(&words[..count], before, map, area, kept)
 }

@@ -16,7 +16,8 @@ use Rattle.lists.proofs.Tests.{Says, itself, ◌and◌, eq_says, le_says}
 use Rattle.lists.specs.Lists.{same, all, upto}
 use Rattle.paper.specs.Map.{trailer, N, L, P, ins, outs, to_nodes, to_links, mark, PGT1, well_formed, within_limits}
 use Rattle.paper.specs.Refusals.{passed, refuse, rule1, rule2, decide, Answer, refused, answered, answer}
-use Rattle.stepmap.specs.Formed.{few_ports}
+use Rattle.stepmap.specs.Formed.{few_ports, sizes_of}
+use Rattle.stepmap.specs.declared.read.Sizes.{Sizes}
 use Rattle.stepmap.proofs.Fields.{word_below}
 
 -- the mark, byte by byte
@@ -124,8 +125,8 @@ pub limits : (b : List ℕ) → within_limits b ≡ true → ((N b ≤ 512) × (
 limits b h = ((limits_says b).to (subst T (sym h) tt)).0
 
 -- the answer
-abbrev pub ruled : List ℕ → Answer (ℕ × ℕ × ℕ)
-ruled b = answer (decide (rule1 b ∷ rule2 b ∷ [])) (N b, L b, P b)
+abbrev pub ruled : List ℕ → Answer Sizes
+ruled b = answer (decide (rule1 b ∷ rule2 b ∷ [])) (sizes_of b)
 
 module _ (b : List ℕ) where
   pub refused_1 : well_formed b ≡ false → refused 1 0 ≡ ruled b
@@ -141,6 +142,6 @@ module _ (b : List ℕ) where
   passes h g = rw (h, g)
 
   pub sized : {n l p : ℕ} → n ≡ N b → l ≡ L b → p ≡ P b → well_formed b ≡ true → within_limits b ≡ true
-      → answered (n, l, p) ≡ ruled b
+      → answered (record { nodes = n; links = l; ports = p }) ≡ ruled b
   unfolding answer
   sized en el ep h g = rw (passes h g, en, el, ep)

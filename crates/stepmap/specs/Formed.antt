@@ -2,6 +2,7 @@
 -- Rests on paper's Map.
 use Rattle.std.specs.Prelude.{ℕ, ◌+◌, ◌*◌, ◌≤◌, ◌<◌, Bool, ◌&&◌, cond, List, ◌≡◌, leb, length}
 use Rattle.paper.specs.Map.{N, L, P, ins, outs, first_port, input, output}
+use Rattle.stepmap.specs.declared.read.Sizes.{Sizes}
 
 -- n is the number of nodes, and link k's record stands within the bytes
 pub record HasLink (b : List ℕ) (n k : ℕ) : Type 0 where
@@ -36,3 +37,7 @@ pub record ReadWell (b : List ℕ) (n l p : ℕ) : Type 0 where
   pub few-nodes : n ≤ 512
   pub few-links : l ≤ 2048
   pub few-ports : p ≤ 4096
+
+-- how many nodes, links and ports the map's bytes say
+abbrev pub sizes_of : List ℕ → Sizes
+sizes_of b = record { nodes = N b; links = L b; ports = P b }

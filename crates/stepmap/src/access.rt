@@ -1,17 +1,18 @@
 // Translated from src/view.rs of portgraph (88172a3c8e, Apache-2.0, see NOTICE), and changed: the graph behind `PortView`
-// and `LinkView` is the step map's bytes, and a node or a link is its number.
+// and `LinkView` is the step map's bytes, and a node or a link is its number. A field has
+// an accessor of its own, under the Rust's name.
 ghost use Rattle.std.specs.Prelude.{◌≡◌, ◌+◌, ◌*◌, ◌<◌, length};
 ghost use Rattle.paper.specs.Map.{word, ins, outs, link_from, link_out, link_to, link_in};
 ghost use Rattle.stepmap.specs.Formed.{HasLink};
 
-use words::field::{field_at, wide};
+use words::field::field_at;
 
 // The field at a place of the bytes, as a number to count with.
 pub fn number_at(b: &[u8], at: usize) -> usize
     requires { at + 1 < length b.now }
     ensures { result ≡ word b.now at }
 {
-    wide(field_at(b, at))
+    usize::from(field_at(b, at))
 }
 
 // How many inputs node v has (the Rust's `num_inputs`).

@@ -1,43 +1,17 @@
 // The check of a map's links: refusals 4 and 5. One pass over the nodes and one over the links, with one mark for each port.
-ghost use Rattle.std.specs.Prelude.{◌≡◌, ◌≢◌, false, ◌||◌, cond, length, set};
+ghost use Rattle.std.specs.Prelude.{◌≡◌, false, ◌||◌, cond, length, set};
 ghost use Rattle.lists.specs.Found.{placed};
 ghost use Rattle.paper.specs.Map.{P, target_port, missing, second};
-ghost use Rattle.paper.specs.Refusals.{passed, refuse_link, rule45};
-ghost use Rattle.refusals.specs.Said.{ruled};
+ghost use Rattle.paper.specs.Refusals.{refuse_link, rule45};
+ghost use Rattle.refusals.specs.Said.{ruling_of};
 ghost use Rattle.stepmap.specs.Formed.{HasLink, ReadWell};
 ghost use Rattle.stepmap.specs.Marks.{Blank, Firsts, LinkReady};
-ghost use Rattle.stepmap.specs.Said.{links_said};
 
 use super::access::{link_from, link_in, link_out, link_to, num_inputs, num_outputs};
 use super::ports::first_ports;
 use refusals::Refusal;
-use words::field::wide;
 
-// What the check finds: no fault, or refusal 4 or 5 at a link.
-#[derive(Clone, Copy)]
-pub enum Links {
-    Sound,
-    Refused(Refusal),
-}
-
-// The links' refusal; `Sound`, which the caller has taken apart, is none.
-pub fn link_refusal(found: Links) -> Refusal
-    requires { links_said found ≢ passed }
-    ensures { ruled result ≡ links_said found }
-{
-    let Links::Refused(x) = found else {
-        unreachable!();
-    };
-    x
-}
-
-fn node_room() -> [u16; 513]
-    ensures { length result ≡ 513 }
-{
-    [0u16; 513]
-}
-
-// A mark for each port that a map may have, none of them set.
+// A mark for each port that a map may have, none of them set: a function, since its contract says so of every port.
 fn port_room() -> [u16; 4096]
     ensures { Blank 4096 result }
 {
@@ -71,44 +45,45 @@ fn target_port(b: &[u8], n: usize, k: usize, firsts: &[u16]) -> usize
     ensures { result ≡ target_port b.now k }
 {
     let to = link_to(b, n, k);
-    wide(firsts[to]) + link_in(b, n, k)
+    usize::from(firsts[to]) + link_in(b, n, k)
 }
 
 // Checks link k, where the links before it are sound and have set the marks of their inputs, and sets its own.
-fn check_link(b: &[u8], n: usize, k: usize, firsts: &[u16], marks: &mut [u16]) -> Links
+fn check_link(
+    b: &[u8],
+    n: usize,
+    k: usize,
+    firsts: &[u16],
+    marks: &mut [u16],
+) -> Result<(), Refusal>
     requires { LinkReady b.now n k firsts.now marks.old }
-    ensures result_value { links_said result ≡ refuse_link b.now (placed (missing b.now k || second b.now k) k) }
+    ensures result_value { ruling_of result ≡ refuse_link b.now (placed (missing b.now k || second b.now k) k) }
     ensures marks_after { marks.new ≡
         cond (missing b.now k || second b.now k)
         marks.old
         (set marks.old (target_port b.now k) 1) }
 {
     if is_missing(b, n, k) {
-        return Links::Refused(Refusal::Missing(k));
+        return Err(Refusal::Missing(k));
     }
     let target = target_port(b, n, k, firsts);
     if marks[target] == 1 {
-        return Links::Refused(Refusal::Second(k));
+        return Err(Refusal::Second(k));
     }
     marks[target] = 1;
-    Links::Sound
+    Ok(())
 }
 
 // Checks the links of a map of n nodes and l links: the first bad one decides, and for one link 4 comes before 5.
-pub fn check_links(b: &[u8], n: usize, l: usize) -> Links
+pub fn check_links(b: &[u8], n: usize, l: usize) -> Result<(), Refusal>
     requires { ReadWell b.now n l (P b.now) }
-    ensures { links_said result ≡ rule45 b.now }
+    ensures { ruling_of result ≡ rule45 b.now }
 {
-    let mut firsts = node_room();
+    let mut firsts = [0u16; 513];
     first_ports(b, n, &mut firsts);
     let mut marks = port_room();
-    let mut k: usize = 0;
-    while k < l {
-        let found = check_link(b, n, k, &firsts, &mut marks);
-        let Links::Sound = found else {
-            return found;
-        };
-        k += 1;
+    for k in 0..l {
+        check_link(b, n, k, &firsts, &mut marks)?;
     }
-    Links::Sound
+    Ok(())
 }

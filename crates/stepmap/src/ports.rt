@@ -14,10 +14,8 @@ pub fn first_port(b: &[u8], v: usize) -> usize
     ensures { result ≡ first_port b.now v }
 {
     let mut p: usize = 0;
-    let mut u: usize = 0;
-    while u < v {
+    for u in 0..v {
         p += num_inputs(b, u) + num_outputs(b, u);
-        u += 1;
     }
     p
 }
@@ -29,11 +27,9 @@ pub fn first_ports(b: &[u8], n: usize, firsts: &mut [u16])
     ensures { firsts.new ≡ sets firsts.old 0 (map (first_port b.now) (upto (n + 1))) }
 {
     let mut p: usize = 0;
-    let mut v: usize = 0;
-    while v < n {
+    for v in 0..n {
         firsts[v] = p as u16;
         p += num_inputs(b, v) + num_outputs(b, v);
-        v += 1;
     }
     firsts[n] = p as u16;
 }
@@ -45,6 +41,7 @@ pub fn port_node(b: &[u8], n: usize, p: usize) -> usize
 {
     let mut v: usize = 0;
     let mut next = num_inputs(b, 0) + num_outputs(b, 0);
+    // The ports end the search: the node that holds p comes before the last, so no range counts the nodes.
     while next <= p {
         v += 1;
         next += num_inputs(b, v) + num_outputs(b, v);

@@ -1,11 +1,10 @@
 // The reader of a step map: refusals 1 and 2. Any bytes of any length are answered.
-ghost use Rattle.std.specs.Prelude.{◌≡◌, ◌≢◌, [], ◌∷◌, ◌+◌, ◌*◌, ◌≤◌, length, take, drop};
+ghost use Rattle.std.specs.Prelude.{◌≡◌, [], ◌∷◌, ◌+◌, ◌*◌, ◌≤◌, length, take, drop};
 ghost use Rattle.lists.specs.Lists.{all, upto, same};
 ghost use Rattle.paper.specs.Map.{N, L, P, PGT1, well_formed};
-ghost use Rattle.paper.specs.Refusals.{passed, decide, answer, rule1, rule2};
-ghost use Rattle.refusals.specs.Said.{ruled, ruling};
-ghost use Rattle.stepmap.specs.Formed.{few_ports};
-ghost use Rattle.stepmap.specs.Said.{map_said};
+ghost use Rattle.paper.specs.Refusals.{decide, answer, rule1, rule2};
+ghost use Rattle.refusals.specs.Said.{answer_of};
+ghost use Rattle.stepmap.specs.Formed.{few_ports, sizes_of};
 
 use super::access::{num_inputs, num_outputs, number_at};
 use super::ports::first_port;
@@ -17,28 +16,6 @@ pub struct Sizes {
     pub nodes: usize,
     pub links: usize,
     pub ports: usize,
-}
-
-// What reading finds: how many nodes, links and ports there are, or refusal 1 or 2.
-#[derive(Clone, Copy)]
-pub enum StepMap {
-    Sized {
-        nodes: usize,
-        links: usize,
-        ports: usize,
-    },
-    Refused(Refusal),
-}
-
-// A reading's refusal; `Sized`, which the caller has taken apart, is none.
-pub fn map_refusal(read: StepMap) -> Refusal
-    requires { ruling (map_said read) ≢ passed }
-    ensures { ruled result ≡ ruling (map_said read) }
-{
-    let StepMap::Refused(x) = read else {
-        unreachable!();
-    };
-    x
 }
 
 // How many nodes the trailer says (the Rust's `node_count`).
@@ -63,16 +40,7 @@ fn is_mark(b: &[u8], at: usize) -> bool
     ensures { result ≡ same (take 4 (drop at b.now)) PGT1 }
 {
     let mark = b"PGT1";
-    if b[at] != mark[0] {
-        return false;
-    }
-    if b[at + 1] != mark[1] {
-        return false;
-    }
-    if b[at + 2] != mark[2] {
-        return false;
-    }
-    b[at + 3] == mark[3]
+    b[at..at + 4] == mark[..]
 }
 
 // Whether length, distances and mark are right. The distances are compared as numbers, not modulo 65536.
@@ -102,46 +70,42 @@ fn degrees_within(b: &[u8], n: usize) -> bool
     requires { 4 * n ≤ length b.now }
     ensures { result ≡ all (few_ports b.now) (upto n) }
 {
-    let mut v: usize = 0;
-    while v < n {
+    for v in 0..n {
         if num_inputs(b, v) > 255 {
             return false;
         }
         if num_outputs(b, v) > 255 {
             return false;
         }
-        v += 1;
     }
     true
 }
 
-// Reads a map: refusal 1, then refusal 2, else its sizes.
-pub fn read_map(b: &[u8]) -> StepMap
-    ensures { map_said result ≡
-        answer (decide (rule1 b.now ∷ rule2 b.now ∷ []))
-        (N b.now, L b.now, P b.now) }
+// Reads a map: its sizes, or refusal 1, then refusal 2.
+pub fn read_map(b: &[u8]) -> Result<Sizes, Refusal>
+    ensures { answer_of result ≡ answer (decide (rule1 b.now ∷ rule2 b.now ∷ [])) (sizes_of b.now) }
 {
     if !well_formed(b) {
-        return StepMap::Refused(Refusal::Malformed);
+        return Err(Refusal::Malformed);
     }
     let n = node_count(b);
     let l = link_count(b);
     if n > 512 {
-        return StepMap::Refused(Refusal::TooLarge);
+        return Err(Refusal::TooLarge);
     }
     if l > 2048 {
-        return StepMap::Refused(Refusal::TooLarge);
+        return Err(Refusal::TooLarge);
     }
     if !degrees_within(b, n) {
-        return StepMap::Refused(Refusal::TooLarge);
+        return Err(Refusal::TooLarge);
     }
     let p = first_port(b, n);
     if p > 4096 {
-        return StepMap::Refused(Refusal::TooLarge);
+        return Err(Refusal::TooLarge);
     }
-    StepMap::Sized {
+    Ok(Sizes {
         nodes: n,
         links: l,
         ports: p,
-    }
+    })
 }

@@ -37,15 +37,15 @@ pub fn lay_out(sizes: Sizes) -> Layout
     let scratch = along + (2 * sizes.links + sizes.nodes);
     let end = scratch + (4 * sizes.nodes + 4 * sizes.links + 2 * sizes.ports + 4);
     Layout {
-        sizes: sizes,
-        order: order,
-        positions: positions,
-        begins: begins,
-        lines: lines,
-        starts: starts,
-        along: along,
-        scratch: scratch,
-        end: end,
+        sizes,
+        order,
+        positions,
+        begins,
+        lines,
+        starts,
+        along,
+        scratch,
+        end,
     }
 }
 

@@ -1,5 +1,4 @@
--- What a list that was taken in tells a caller: 8, 9 and 10 passed, and its nodes stand in the area. Each answer's meaning tells its cases
--- apart. Rests on Passing and refusals' Answers.
+-- What a list that was taken in tells a caller: 8, 9 and 10 passed, and its nodes stand in the area. Rests on Passing.
 use Prim.Native.Nat.{ℕ, ◌≤◌, ◌<◌}
 use native.Mathlib.Omega.{arith}
 use mathlib.Core.Path.{◌≡◌, refl, sym, ap, ◌∙◌}
@@ -13,26 +12,14 @@ use Rattle.lists.specs.Found.{Found, absent, at, placed}
 use Rattle.lists.proofs.Compare.{fits}
 use Rattle.lists.proofs.Places.{distinct-times}
 use Rattle.lists.proofs.Sections.{part}
-use Rattle.paper.specs.Refusals.{passed, refusal, refuse, earliest, rule8, rule10, decide, Answer, answer, refused, answered}
+use Rattle.paper.specs.Refusals.{passed, refuse, earliest, rule8, rule10, decide, Answer, answer, refused, answered}
 use Rattle.refusals.specs.declared.Refusal.{Refusal}
-use Rattle.refusals.proofs.Answers.{meant, meant_back}
-use Rattle.take_in.specs.declared.Taken.{Taken}
-use Rattle.take_in.specs.declared.Taken.TheVariants.{Nodes, Refused}
+use Rattle.std.specs.Prelude.{Result, Ok}
+use Rattle.refusals.specs.Said.{answer_of}
+use Rattle.refusals.specs.declared.Refusal.{Refusal}
 use Rattle.take_in.specs.Taking.{Known}
-use Rattle.take_in.specs.Said.{taken_said, unknown_in, repeat_in, list_ruled, TakenIn}
+use Rattle.take_in.specs.Said.{unknown_in, repeat_in, list_ruled, TakenIn}
 use Rattle.take_in.proofs.Passing.{all_known, known-below, each-once}
-
-meaning : Answer ℕ → Taken
-meaning (refused i v) = Refused (meant (refusal i v))
-meaning (answered c) = Nodes c
-
-meaning_said : (r : Taken) → meaning (taken_said r) ≡ r
-unfolding meaning
-meaning_said (Nodes c) = refl
-meaning_said (Refused x) = ap (λ (y : Refusal). Refused y) (meant_back x)
-
-pub taken_said_injective : (r s : Taken) → taken_said r ≡ taken_said s → r ≡ s
-taken_said_injective r s e = sym (meaning_said r) ∙ ap meaning e ∙ meaning_said s
 
 -- ---- what the three rules found
 
@@ -82,12 +69,12 @@ module _ (list : List ℕ) where
   once_pass e = ap (refuse 10) e
 
 module _ {n : ℕ} {list a : List ℕ} {at : ℕ} {m : List ℕ} where
-  by_rules : {r : Taken} → TakenIn n list a at r m
-      → taken_said r ≡ ruled_by (eqb (length list) 0) (earliest (leb n) list) (repeat_in list) (length list)
+  by_rules : {r : Result ℕ Refusal} → TakenIn n list a at r m
+      → answer_of r ≡ ruled_by (eqb (length list) 0) (earliest (leb n) list) (repeat_in list) (length list)
   unfolding ruled_by list_ruled rule8 unknown_in rule10 repeat_in
   by_rules taken = taken.said
 
-  pub were_nodes : {c : ℕ} → TakenIn n list a at (Nodes c) m → AllNodes n list at c m
+  pub were_nodes : {c : ℕ} → TakenIn n list a at (Ok c) m → AllNodes n list at c m
   were_nodes {c} taken =
       let told = nodes-told (length list) _ _ _ (by_rules taken) in
       let known = all_known (sym told.1) in

@@ -4,7 +4,6 @@
 use Prim.Native.Nat.{ℕ, ◌*◌, ◌<◌}
 use native.Mathlib.Omega.{arith}
 use mathlib.Core.Path.{◌≡◌, sym, ap, ◌∙◌, subst}
-use mathlib.Core.Logic.{◌≢◌}
 use mathlib.Core.List.{List, [], ◌∷◌, ◌++◌}
 use lib.ListN.{length, get_or}
 use lib.Seq.{sets}
@@ -14,9 +13,9 @@ use Rattle.lists.proofs.Sections.{get_d_part}
 use Rattle.paper.specs.Map.{N}
 use Rattle.paper.specs.Refusals.{Ruling, passed, Answer, answer, decide, on_refusal, rule8, rule9, rule10}
 use Rattle.paper.specs.Calls.{line_rules}
-use Rattle.refusals.specs.Said.{ruled, refused_by, ruling}
+use Rattle.refusals.specs.Said.{ruled, refused_by}
 use Rattle.refusals.specs.declared.Refusal.{Refusal}
-use Rattle.refusals.proofs.Rulings.{no_refusal, ruling-answer, first_decides, then_decides}
+use Rattle.refusals.proofs.Rulings.{no_refusal, first_decides, then_decides}
 use Rattle.tables.specs.Answered.{Answered, AnsweredInto}
 use Rattle.tables.specs.declared.Layout.{Layout}
 use Rattle.tables.specs.Placed.{scratch_size}
@@ -24,10 +23,10 @@ use Rattle.tables.specs.Within.{Within}
 use Rattle.tables.specs.Usable.{Usable, Scratched}
 use Rattle.tables.proofs.Within.{within_both, within_wider}
 use Rattle.take_in.specs.Taking.{Known}
-use Rattle.take_in.specs.Said.{TakenIn, taken_said, list_ruled}
-use Rattle.take_in.specs.declared.Taken.{Taken}
-use Rattle.take_in.specs.declared.Taken.TheVariants.{Nodes, Refused}
-use Rattle.take_in.proofs.Answers.{AllNodes, were_nodes}
+use Rattle.take_in.specs.Said.{TakenIn, list_ruled}
+use Rattle.std.specs.Prelude.{Err}
+use Rattle.refusals.proofs.Answers.{rule_said}
+use Rattle.take_in.proofs.Answers.{AllNodes}
 use Rattle.take_in.proofs.Passing.{rule9-is, known-below}
 use Rattle.take_in.specs.Listed.{Listed}
 
@@ -40,10 +39,6 @@ pub taken-kept : (at : Layout) {a m : List ℕ} → Within at.scratch (2 * at.si
 taken-kept at kept = within_wider kept at.scratch (scratch_size at.sizes) (omega arith) (omega arith)
 
 -- ---- a list that was taken in
-
-module _ {n : ℕ} {list a : List ℕ} {at : ℕ} {r : Taken} {m : List ℕ} (taken : TakenIn n list a at r m) where
-  pub all-taken : {c : ℕ} → r ≡ Nodes c → AllNodes n list at c m
-  all-taken e = were_nodes (subst (λ (x : Taken). TakenIn n list a at x m) e taken)
 
 module _ {b a : List ℕ} {at : Layout} (usable : Usable b a at) {list : List ℕ} {c : ℕ} {m : List ℕ} (nodes : AllNodes at.sizes.nodes list at.scratch c m)
     (kept : Scratched at a m) where
@@ -83,16 +78,12 @@ module _ {b a : List ℕ} {at : Layout} (usable : Usable b a at) {list : List �
 -- ---- a list that was not taken in
 
 -- 8, 9 or 10 refuses
-pub not_taken : {r : Taken} {x : Refusal} → r ≡ Refused x → ruling (taken_said r) ≢ passed
-unfolding ruling
-not_taken e f = no_refusal (sym f ∙ ap (λ (o : Taken). ruling (taken_said o)) e)
-
-module _ {b a : List ℕ} {at : Layout} (usable : Usable b a at) {list : List ℕ} {r : Taken} {m : List ℕ}
-    (taken : TakenIn at.sizes.nodes list a at.scratch r m) (x : Refusal) (e : ruled x ≡ ruling (taken_said r)) {A : Type 0} (y : A) where
+module _ {b a : List ℕ} {at : Layout} (usable : Usable b a at) {list : List ℕ} {x : Refusal} {m : List ℕ}
+    (taken : TakenIn at.sizes.nodes list a at.scratch (Err x) m) {A : Type 0} (y : A) where
   ruled_so : ruled x ≡ decide (line_rules b list)
   unfolding line_rules list_ruled
   ruled_so =
-      e ∙ ap ruling taken.said ∙ ruling-answer (list_ruled at.sizes.nodes list) (length list)
+      rule_said x (length list) taken.said
       ∙ ap (λ (u : Ruling). decide (rule8 (length list) ∷ u ∷ rule10 list ∷ [])) (sym (rule9-is b list at.sizes.nodes usable.read.nodes))
 
   pub list_refused : Answered at a m (refused_by x) (line_rules b list) y

@@ -22,11 +22,9 @@ use Rattle.paper.specs.Refusals.{refuse, earliest, rule8, rule9, rule10, decide,
 use Rattle.refusals.specs.declared.Refusal.TheVariants.{Empty, Unknown, Repeated}
 use Rattle.tables.specs.Within.{Within}
 use Rattle.tables.proofs.Within.{within_none, within_both}
-use Rattle.take_in.specs.declared.Earliest.{Earliest}
-use Rattle.take_in.specs.declared.Earliest.TheVariants.{Absent, At}
-use Rattle.take_in.specs.declared.Taken.TheVariants.{Nodes, Refused}
+use Rattle.std.specs.Prelude.{Some, None, Ok, Err}
 use Rattle.take_in.specs.Taking.{Known}
-use Rattle.take_in.specs.Said.{earliest_said, unknown_in, repeats, repeat_in, list_ruled, EachTaken, TakenIn}
+use Rattle.take_in.specs.Said.{unknown_in, repeats, repeat_in, list_ruled, EachTaken, TakenIn}
 
 -- 9 of a map with n nodes
 pub rule9-is : (b list : List ℕ) (n : ℕ) → N b ≡ n → rule9 b list ≡ unknown_in n list
@@ -97,7 +95,7 @@ not_answered : {i v c : ℕ} → ◌≡◌ {A = Answer ℕ} (refused i v) (answe
 not_answered e = let z : ◌≡◌ {A = ℕ} 0 1 = cc in omega arith
 
 module _ {n : ℕ} {list a : List ℕ} {at : ℕ} where
-  pub empty-list : length list ≡ 0 → TakenIn n list a at (Refused Empty) a
+  pub empty-list : length list ≡ 0 → TakenIn n list a at (Err Empty) a
   unfolding decide refuse answer
   empty-list e =
       record {
@@ -107,7 +105,7 @@ module _ {n : ℕ} {list a : List ℕ} {at : ℕ} where
       }
 
   module _ (some : length list ≡ 0 → ⊥) where
-    pub unknown_entry : {i : ℕ} → Found.at i ≡ earliest (leb n) list → TakenIn n list a at (Refused (Unknown i)) a
+    pub unknown_entry : {i : ℕ} → Found.at i ≡ earliest (leb n) list → TakenIn n list a at (Err (Unknown i)) a
     unfolding decide refuse answer
     unknown_entry e =
         record {
@@ -117,20 +115,20 @@ module _ {n : ℕ} {list a : List ℕ} {at : ℕ} where
         }
 
     module _ (known : absent ≡ earliest (leb n) list) {m o : List ℕ} (marked : Within at (2 * n) a m) where
-      pub repeated_entry : {i : ℕ} {r : Earliest} → r ≡ At i → EachTaken n list m at r o → TakenIn n list a at (Refused (Repeated i)) o
+      pub repeated_entry : {i : ℕ} → EachTaken n list m at (Some i) o → TakenIn n list a at (Err (Repeated i)) o
       unfolding decide refuse answer
-      repeated_entry e each =
+      repeated_entry each =
           record {
-            said = ruled n list (ne_eqb (length list) 0 some) known (ap earliest_said (sym e) ∙ each.said);
+            said = ruled n list (ne_eqb (length list) 0 some) known each.said;
             stands = λ h. absurd (not_answered h);
             kept = within_both marked each.kept;
           }
 
-      pub all-nodes : {c : ℕ} {r : Earliest} → c ≡ length list → r ≡ Absent → EachTaken n list m at r o → TakenIn n list a at (Nodes c) o
+      pub all-nodes : {c : ℕ} → c ≡ length list → EachTaken n list m at None o → TakenIn n list a at (Ok c) o
       unfolding decide refuse answer
-      all-nodes long e each =
+      all-nodes long each =
           record {
-            said = ap answered long ∙ ruled n list (ne_eqb (length list) 0 some) known (ap earliest_said (sym e) ∙ each.said);
-            stands = λ h. each.stands (ap earliest_said e);
+            said = ap answered long ∙ ruled n list (ne_eqb (length list) 0 some) known each.said;
+            stands = λ h. each.stands refl;
             kept = within_both marked each.kept;
           }

@@ -1,26 +1,13 @@
 -- What taking in a list says, in 01's numbers and values, and what it leaves in the area.
 -- Rests on paper's Refusals, refusals' Said and tables' Within.
-use Rattle.std.specs.Prelude.{ℕ, ◌*◌, ◌≡◌, Bool, List, [], ◌∷◌, leb, length, get_or, take}
+use Rattle.std.specs.Prelude.{ℕ, ◌*◌, ◌≡◌, Bool, List, [], ◌∷◌, Option, Result, leb, length, get_or, take}
 use Rattle.lists.specs.Lists.{member}
-use Rattle.lists.specs.Found.{Found, absent, at, first}
+use Rattle.lists.specs.Found.{Found, absent, first, found_of}
 use Rattle.lists.proofs.Sections.{part}
-use Rattle.paper.specs.Refusals.{Ruling, refuse, earliest, rule8, rule10, decide, Answer, answer, answered}
-use Rattle.refusals.specs.Said.{refused_by}
+use Rattle.paper.specs.Refusals.{Ruling, refuse, earliest, rule8, rule10, decide, answer, answered}
+use Rattle.refusals.specs.Said.{answer_of}
+use Rattle.refusals.specs.declared.Refusal.{Refusal}
 use Rattle.tables.specs.Within.{Within}
-use Rattle.take_in.specs.declared.Earliest.{Earliest}
-use Rattle.take_in.specs.declared.Earliest.TheVariants.{Absent, At}
-use Rattle.take_in.specs.declared.Taken.{Taken}
-use Rattle.take_in.specs.declared.Taken.TheVariants.{Nodes, Refused}
-
--- a bad entry's place
-abbrev pub earliest_said : Earliest → Found
-earliest_said Absent = absent
-earliest_said (At i) = at i
-
--- how many nodes, or a refusal with its number and place
-abbrev pub taken_said : Taken → Answer ℕ
-taken_said (Nodes c) = answered c
-taken_said (Refused x) = refused_by x
 
 -- 9 of a map of n nodes
 unfoldable pub unknown_in : ℕ → List ℕ → Ruling
@@ -39,13 +26,13 @@ unfoldable pub list_ruled : ℕ → List ℕ → Ruling
 list_ruled n list = decide (rule8 (length list) ∷ unknown_in n list ∷ rule10 list ∷ [])
 
 -- what taking in each entry leaves
-pub record EachTaken (n : ℕ) (list a : List ℕ) (at : ℕ) (r : Earliest) (m : List ℕ) : Type 0 where
-  pub said : earliest_said r ≡ repeat_in list
-  pub stands : earliest_said r ≡ absent → part m at (length list) ≡ list
+pub record EachTaken (n : ℕ) (list a : List ℕ) (at : ℕ) (r : Option ℕ) (m : List ℕ) : Type 0 where
+  pub said : found_of r ≡ repeat_in list
+  pub stands : found_of r ≡ absent → part m at (length list) ≡ list
   pub kept : Within at (2 * n) a m
 
 -- what taking in a list leaves: a list that passes stands in the area
-pub record TakenIn (n : ℕ) (list a : List ℕ) (at : ℕ) (r : Taken) (m : List ℕ) : Type 0 where
-  pub said : taken_said r ≡ answer (list_ruled n list) (length list)
-  pub stands : taken_said r ≡ answered (length list) → part m at (length list) ≡ list
+pub record TakenIn (n : ℕ) (list a : List ℕ) (at : ℕ) (r : Result ℕ Refusal) (m : List ℕ) : Type 0 where
+  pub said : answer_of r ≡ answer (list_ruled n list) (length list)
+  pub stands : answer_of r ≡ answered (length list) → part m at (length list) ≡ list
   pub kept : Within at (2 * n) a m

@@ -9,12 +9,12 @@ use mathlib.Core.Path.{◌≡◌, refl, sym, ap, ap₂, ◌∙◌}
 use mathlib.Core.List.{List, [], ◌∷◌, ◌++◌, map, append-nil}
 use lib.ListN.{length, take, drop, set}
 use lib.Seq.{sets, take-suc-set, length-take-le}
+use Rattle.std.proofs.Common.{None, Some}
+use Rattle.std.proofs.lemmas.Option.{some_pair_parts}
 use Rattle.lists.specs.Found.{Found, absent, at}
 use Rattle.lists.proofs.Sections.{sets-next}
 use Rattle.paper.specs.Text.{space, split, list, bad, also, collect, read_number, read_list}
 use Rattle.text.specs.declared.reader.Cursor.{Cursor}
-use Rattle.text.specs.declared.reader.Number.TheVariants as number
-use Rattle.text.specs.declared.reader.ListRead.TheVariants.{Numbers, Bad}
 use Rattle.text.specs.Parts.{part_end}
 use Rattle.text.specs.Numbers.{with_next, number_at}
 use Rattle.text.specs.Lists.{ReadInto, leading, numbers_read, found_from}
@@ -80,11 +80,11 @@ module _ (line : List ℕ) (start : ℕ) (known : start ≤ length line) where
       go (yes q) = absurd (nothing (ap (λ (k : ℕ). take k (drop start line)) (empty q)))
       go (no ne) = omega (arith, part-starts space line start)
 
-  pub moved : {n : ℕ} {next : Cursor} → number_at line start ≡ number.Value n next → Moved line start n next.at
+  pub moved : {n : ℕ} {next : Cursor} → number_at line start ≡ Some (n, next) → Moved line start n next.at
   unfolding number_at
   moved {n} {next} e = go (read_number text) refl e
     where
-      go : (found : Found) → read_number text ≡ found → with_next found (end + 1) ≡ number.Value n next → Moved line start n next.at
+      go : (found : Found) → read_number text ≡ found → with_next found (end + 1) ≡ Some (n, next) → Moved line start n next.at
       go absent q e = absurd (let z : ◌≡◌ {A = ℕ} 0 1 = cc in omega arith)
       go (at m) q e =
           record {
@@ -93,20 +93,20 @@ module _ (line : List ℕ) (start : ℕ) (known : start ≤ length line) where
             within = omega (arith, part-within space line start known, place);
           }
         where
-          same : m ≡ n
-          same = cc
+          parts : (m ≡ n) × (◌≡◌ {A = Cursor} (record { at = end + 1 }) next)
+          parts = some_pair_parts m n _ next e
 
-          cursors : ◌≡◌ {A = Cursor} (record { at = end + 1 }) next
-          cursors = cc
+          same : m ≡ n
+          same = parts.0
 
           place : end + 1 ≡ next.at
-          place = ap (λ (c : Cursor). c.at) cursors
+          place = ap (λ (c : Cursor). c.at) parts.1
 
-  stopped : number_at line start ≡ number.Bad → found_from line start ≡ absent ∷ found_from line (end + 1)
+  stopped : number_at line start ≡ None → found_from line start ≡ absent ∷ found_from line (end + 1)
   unfolding number_at
   stopped e = go (read_number text) refl e
     where
-      go : (found : Found) → read_number text ≡ found → with_next found (end + 1) ≡ number.Bad
+      go : (found : Found) → read_number text ≡ found → with_next found (end + 1) ≡ None
           → found_from line start ≡ absent ∷ found_from line (end + 1)
       go absent q e = first q
       go (at m) q e = absurd (let z : ◌≡◌ {A = ℕ} 0 1 = cc in omega arith)
@@ -129,7 +129,7 @@ read-line (x ∷ xs) h = (ap collect parts, ap leading parts)
     parts : map read_number (split space (x ∷ xs)) ≡ found_from (x ∷ xs) 0
     parts = ap (map read_number) (sym (parts_left space (x ∷ xs) 0 (omega arith)))
 
-pub read_none : (line words : List ℕ) → length line ≡ 0 → ReadInto line words words (Numbers 0)
+pub read_none : (line words : List ℕ) → length line ≡ 0 → ReadInto line words words (Some 0)
 unfolding read_list numbers_read
 read_none [] words e = record { said = refl; within = omega arith; stored = refl }
 read_none (x ∷ xs) words e = absurd (omega arith)
@@ -139,7 +139,7 @@ read-start line words h =
     record { some = omega arith; found = refl; stored = refl; few = omega arith; within = omega arith }
 
 module _ {line before words : List ℕ} {start count : ℕ} (far : SoFar line before words start count) where
-  pub read_more : {n : ℕ} {next : Cursor} → start ≤ length line → count < length words → number_at line start ≡ number.Value n next
+  pub read_more : {n : ℕ} {next : Cursor} → start ≤ length line → count < length words → number_at line start ≡ Some (n, next)
       → SoFar line before (set words count n) next.at (count + 1)
   read_more {n} {next} known room e =
       record {
@@ -163,7 +163,7 @@ module _ {line before words : List ℕ} {start count : ℕ} (far : SoFar line be
       one_more : take (count + 1) (set words count n) ≡ take count words ++ (n ∷ [])
       one_more = ap (λ (k : ℕ). take k (set words count n)) (add-one count) ∙ take-suc-set words count n room
 
-  pub read_bad : start ≤ length line → number_at line start ≡ number.Bad → ReadInto line before words Bad
+  pub read_bad : start ≤ length line → number_at line start ≡ None → ReadInto line before words None
   read_bad known e =
       record {
         said = sym ((read-line line far.some).0 ∙ ap collect parts ∙ collect_bad (take count words) (found_from line next));
@@ -179,7 +179,7 @@ module _ {line before words : List ℕ} {start count : ℕ} (far : SoFar line be
       parts : found_from line 0 ≡ map at (take count words) ++ (absent ∷ found_from line next)
       parts = far.found ∙ ap (λ (fs : List Found). map at (take count words) ++ fs) (stopped line start known e)
 
-  pub read_all : length line < start → count ≤ length words → ReadInto line before words (Numbers count)
+  pub read_all : length line < start → count ≤ length words → ReadInto line before words (Some count)
   unfolding found_from
   read_all over room =
       record {

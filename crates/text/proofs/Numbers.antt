@@ -16,20 +16,6 @@ use Rattle.paper.specs.Text.{space, is_digit, value_onto, is_number, read_number
 use Rattle.text.specs.Parts.{part_end}
 use Rattle.text.specs.Numbers.{read_on, with_next, number_at}
 
--- ---- one digit
-
-below_digits : (x : ℕ) → x < 48 → is_digit x ≡ false
-unfolding is_digit
-below_digits x h = ap (λ (t : Bool). t && leb x 57) (lt-leb 48 x h)
-
-above_digits : (x : ℕ) → 57 < x → is_digit x ≡ false
-unfolding is_digit
-above_digits x h = ap (λ (t : Bool). leb 48 x && t) (lt-leb x 57 h) ∙ and-false (leb 48 x)
-
-among_digits : (x : ℕ) → 48 ≤ x → x ≤ 57 → is_digit x ≡ true
-unfolding is_digit
-among_digits x low high = ap₂ (λ (s t : Bool). s && t) (le-leb 48 x low) (le-leb x 57 high)
-
 -- ---- digits read on from a value
 
 pub read_over : (text : List ℕ) (i : ℕ) {value : ℕ} → length text ≤ i → value ≤ 65535 → at value ≡ read_on value (drop i text)
@@ -64,20 +50,15 @@ module _ (text : List ℕ) (i value : ℕ) (within : i < length text) where
   next_byte : read_on value (drop i text) ≡ read_on value (get_or text i 0 ∷ drop (suc i) text)
   next_byte = ap (read_on value) (drop-cons text i 0 within)
 
-  pub digit_below : get_or text i 0 < 48 → absent ≡ read_on value (drop i text)
-  digit_below h =
-      no_digit value (get_or text i 0) (drop (suc i) text) (below_digits (get_or text i 0) h) ∙ sym next_byte
+  pub digit_none : is_digit (get_or text i 0) ≡ false → absent ≡ read_on value (drop i text)
+  digit_none e = no_digit value (get_or text i 0) (drop (suc i) text) e ∙ sym next_byte
 
-  pub digit_above : 57 < get_or text i 0 → absent ≡ read_on value (drop i text)
-  digit_above h =
-      no_digit value (get_or text i 0) (drop (suc i) text) (above_digits (get_or text i 0) h) ∙ sym next_byte
-
-  pub digit_more : {digit : ℕ} → 48 ≤ get_or text i 0 → get_or text i 0 ≤ 57 → digit ≡ get_or text i 0 - 48
+  pub digit_more : {digit : ℕ} → is_digit (get_or text i 0) ≡ true → digit ≡ get_or text i 0 - 48
       → read_on value (drop i text) ≡ read_on (10 * value + digit) (drop (i + 1) text)
-  digit_more low high e =
+  digit_more e f =
       next_byte
-      ∙ a_digit value (get_or text i 0) (drop (suc i) text) (among_digits (get_or text i 0) low high)
-      ∙ ap₂ (λ (d k : ℕ). read_on (10 * value + d) (drop k text)) (sym e) (sym (add-one i))
+      ∙ a_digit value (get_or text i 0) (drop (suc i) text) e
+      ∙ ap₂ (λ (d k : ℕ). read_on (10 * value + d) (drop k text)) (sym f) (sym (add-one i))
 
 -- ---- a whole text
 

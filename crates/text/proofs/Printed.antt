@@ -1,4 +1,4 @@
--- Texts put one after the other, byte by byte and number by number.
+-- Texts put in their places one after the other, and number by number.
 -- Rests on Printed, paper's `decimal` and lists.Sections.
 use Prim.Native.Nat.{ℕ, zero, suc, ◌+◌, ◌*◌, ◌/◌, ◌%◌, ◌≤◌, ◌<◌}
 use native.Mathlib.Numerals.{add-one}
@@ -7,8 +7,10 @@ use borrow.Author.Tests.{lt-ltb, le-ltb}
 use mathlib.Core.Path.{◌≡◌, refl, sym, ap, ◌∙◌}
 use mathlib.Core.Bool.{Bool, true, false, cond}
 use mathlib.Core.List.{List, [], ◌∷◌, ◌++◌, append-nil, append_assoc, flat_map}
-use lib.ListN.{length, get_or, take, set, length-append}
-use lib.Seq.{sets, take-suc, length-take-le}
+use lib.ListN.{length, get_or, take, drop, set, length-append}
+use borrow.Rule.Slice.PartMut.{put_mid}
+use Rattle.std.proofs.lemmas.Slice.{put_mid-paste}
+use lib.Seq.{sets, sets-eq, take_all, take-suc}
 use lib.Dec.{ltb}
 use Rattle.lists.proofs.Sections.{sets-next}
 use Rattle.lists.proofs.Upto.{flat_map-append}
@@ -32,13 +34,15 @@ put_then {l} {m} {k} {us} {vs} {at} p q =
 pub put_both : (vs ws : List ℕ) {l m k us : List ℕ} {at e f : ℕ} → Put l at us m e → Put m e (vs ++ ws) k f → Put l at (us ++ vs ++ ws) k f
 put_both vs ws {us = us} p q = rw (append_assoc us vs ws) (put_then p q)
 
--- ---- byte by byte
+-- ---- a text in its place
 
-pub byte_more : (out₀ : List ℕ) (at : ℕ) (text : List ℕ) (i : ℕ) {out : List ℕ} → i < length text → out ≡ sets out₀ at (take i text)
-    → set out (at + i) (get_or text i 0) ≡ sets out₀ at (take (i + 1) text)
-byte_more out₀ at text i h e =
-    sets-next out₀ at (take i text) (get_or text i 0 ∷ []) e (length-take-le i text (omega arith))
-    ∙ ap (sets out₀ at) (sym (take-suc text i 0 h) ∙ ap (λ (k : ℕ). take k text) (sym (add-one i)))
+pub put_here : (out : List ℕ) (at n : ℕ) (text : List ℕ) {written : List ℕ} → at + length text ≤ length out → n ≡ length text → written ≡ text
+    → put_mid at n out written ≡ sets out at text
+put_here out at n text fits e f =
+    put_mid-paste at n out _ text n f refl e
+    ∙ ap (λ (i : ℕ). take at out ++ take i text ++ drop (at + i) out) e
+    ∙ ap (λ (t : List ℕ). take at out ++ t ++ drop (at + length text) out) (take_all (length text) text (omega arith))
+    ∙ sym (sets-eq text out at fits)
 
 -- ---- number by number: each has its text
 

@@ -1,44 +1,37 @@
--- A part's end, found byte by byte, and the parts of a text one after the other.
+-- A part's end, by the place of the first mark, and the parts of a text one after the other.
 -- Rests on Parts and on paper's `split`.
 use Prim.Native.Nat.{ℕ, suc, ◌+◌, ◌-◌, ◌≤◌, ◌<◌}
 use native.Mathlib.Decide.{dec_lt}
-use native.Mathlib.Nat.{add-zero}
 use native.Mathlib.Numerals.{add-one}
 use native.Mathlib.Omega.{arith}
 use borrow.Author.Tests.{eq-eqb, ne_eqb, le-leb, lt-leb}
 use mathlib.Core.Path.{◌≡◌, refl, sym, ap, ap₂, ◌∙◌}
 use mathlib.Core.Bool.{Bool, true, false, cond}
+use mathlib.Core.Logic.{◌≢◌}
 use mathlib.Core.List.{List, [], ◌∷◌}
-use lib.ListN.{length, get_or, take, drop, length-drop, drop_of_length-le}
-use lib.Seq.{drop-cons, drop-drop, take_all}
+use lib.ListN.{length, take, drop, length-drop}
+use lib.Seq.{drop-drop, take_all}
 use lib.Dec.{eqb}
+use Rattle.std.proofs.Common.{Option, MatchOption}
+use Rattle.std.specs.Option.{unwrap_or}
+use Rattle.std.specs.List.{AllWithin, HoldsAt}
+use Rattle.std.proofs.lemmas.Iterator.{index_from_first}
 use Rattle.paper.specs.Text.{onto, split}
 use Rattle.text.specs.Parts.{part_length, part_end, parts_from}
 
--- ---- a part's end, from a place on
+-- ---- a part's end, by the place of the first mark
 
-module _ (mark : ℕ) (text : List ℕ) (at : ℕ) where
-  pub part-on : at < length text → (get_or text at 0 ≡ mark → ⊥) → part_end mark text at ≡ part_end mark text (at + 1)
-  unfolding part_end part_length
-  part-on h other =
-      ap (λ (xs : List ℕ). at + part_length mark xs) (drop-cons text at 0 h)
-      ∙ ap (λ (t : Bool). at + cond t 0 (suc (part_length mark (drop (suc at) text)))) (ne_eqb (get_or text at 0) mark other)
-      ∙ further (part_length mark (drop (suc at) text))
-      ∙ ap (λ (k : ℕ). k + part_length mark (drop k text)) (sym (add-one at))
-    where
-      further : (k : ℕ) → at + suc k ≡ suc at + k
-      further k = omega arith
+pub part_at : (mark : ℕ) (xs : List ℕ) (r : Option ℕ)
+    → MatchOption r (AllWithin (λ x. x ≢ mark) xs 0 (length xs)) (λ i. (i < length xs) × HoldsAt (λ x. x ≡ mark) xs i × AllWithin (λ x. x ≢ mark) xs 0 i)
+    → part_length mark xs ≡ unwrap_or r (length xs)
+unfolding part_length
+part_at mark xs r first = index_from_first (part_length mark) (λ x. x ≡ mark) (λ x. x ≢ mark) refl hit miss xs r first
+  where
+    hit : (x : ℕ) (xs : List ℕ) → x ≡ mark → part_length mark (x ∷ xs) ≡ 0
+    hit x xs e = ap (λ (t : Bool). cond t 0 (suc (part_length mark xs))) (eq-eqb x mark e)
 
-  pub part-here : at < length text → get_or text at 0 ≡ mark → at ≡ part_end mark text at
-  unfolding part_end part_length
-  part-here h e =
-      sym (ap (λ (xs : List ℕ). at + part_length mark xs) (drop-cons text at 0 h)
-      ∙ ap (λ (t : Bool). at + cond t 0 (suc (part_length mark (drop (suc at) text)))) (eq-eqb (get_or text at 0) mark e)
-      ∙ add-zero at)
-
-  pub part_over : length text ≤ at → at ≡ part_end mark text at
-  unfolding part_end part_length
-  part_over h = sym (ap (λ (xs : List ℕ). at + part_length mark xs) (drop_of_length-le text h) ∙ add-zero at)
+    miss : (x : ℕ) (xs : List ℕ) → x ≢ mark → part_length mark (x ∷ xs) ≡ part_length mark xs + 1
+    miss x xs ne = ap (λ (t : Bool). cond t 0 (suc (part_length mark xs))) (ne_eqb x mark ne) ∙ sym (add-one (part_length mark xs))
 
 -- ---- where it can be
 

@@ -8,14 +8,8 @@ pub fn part_end(text: &[u8], at: usize, mark: u8) -> usize
     requires { at ≤ length text.now }
     ensures { result ≡ part_end mark text.now at }
 {
-    let mut end = at;
-    while end < text.len() {
-        if text[end] == mark {
-            return end;
-        }
-        end += 1;
-    }
-    end
+    let rest = &text[at..];
+    at + rest.iter().position(|x| *x == mark).unwrap_or(rest.len())
 }
 
 // Where the line that starts at `at` ends: at its newline, or at the input's end. The next line starts one byte on.

@@ -5,19 +5,14 @@ ghost use Rattle.paper.specs.Path.{path};
 ghost use Rattle.paper.specs.Text.{newline, decimal, show_reply, show_refused, show_line, show_way};
 ghost use Rattle.text.specs.Printed.{Put, reply_of, first_line};
 
-use words::field::wide;
-
 // Puts a text.
 pub fn put_text(out: &mut [u8], at: usize, text: &[u8]) -> usize
     requires { at + length text.now ≤ length out.old }
     ensures { Put out.old at text.now out.new result }
 {
-    let mut i = 0;
-    while i < text.len() {
-        out[at + i] = text[i];
-        i += 1;
-    }
-    at + i
+    let end = at + text.len();
+    out[at..end].copy_from_slice(text);
+    end
 }
 
 // Puts a number in decimal, which takes at most 20 bytes: the digits of a tenth of it, and then its last.
@@ -99,10 +94,8 @@ pub fn put_path(out: &mut [u8], at: usize, steps: &[u16]) -> usize
     ensures upper_bound { result ≤ at + 6 * length steps.now + 4 }
 {
     let mut end = put_text(out, at, b"path");
-    let mut i = 0;
-    while i < steps.len() {
-        end = put_numbered(out, end, b" ", wide(steps[i]));
-        i += 1;
+    for step in steps {
+        end = put_numbered(out, end, b" ", usize::from(*step));
     }
     end
 }

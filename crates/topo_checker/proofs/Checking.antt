@@ -2,7 +2,7 @@
 -- Rests on convexity_theory (passing is 01's order check), tables.Usable and Laying.
 use Prim.Native.Nat.{ℕ, ◌+◌, ◌<◌}
 use native.Mathlib.Omega.{arith}
-use mathlib.Core.Path.{◌≡◌, refl, sym, ap, ap₂, ◌∙◌}
+use mathlib.Core.Path.{◌≡◌, refl, sym, ap, ◌∙◌}
 use mathlib.Core.Logic.{inl, inr}
 use mathlib.Core.Bool.{Bool, true, false, not, cond}
 use mathlib.Core.List.{List, [], ◌∷◌}
@@ -12,7 +12,7 @@ use Rattle.lists.specs.Lists.{upto, one, keep, member}
 use Rattle.lists.proofs.Count.{keep-upto}
 use Rattle.paper.specs.Intervals.{Reply}
 use Rattle.paper.specs.OrderCheck.{places_of, order_check}
-use Rattle.paper.specs.Refusals.{Ruling, passed, refusal, refuse, earliest, rule9, decide, answer, answered}
+use Rattle.paper.specs.Refusals.{Ruling, passed, refusal, refuse, earliest, rule9, decide, answer, answered, refused}
 use Rattle.paper.specs.Calls.{order_rules}
 use Rattle.order_theory.proofs.Refusals.{sound}
 use Rattle.accepted_theory.proofs.OrderCheck.{order_check-same}
@@ -26,18 +26,15 @@ use Rattle.tables.specs.Answered.{Answered}
 use Rattle.tables.specs.Placed.{scratch_size}
 use Rattle.tables.specs.Usable.{Usable, Scratched}
 use Rattle.tables.specs.Within.{Within}
-use Rattle.tables.proofs.Within.{within_none, within_both, within_wider}
+use Rattle.tables.proofs.Within.{within_both, within_wider}
 use Rattle.tables.proofs.Usable.{roomy, tables_still}
-use Rattle.topo_checker.specs.Listing.{Unlisted, listed_said, ListTaken, marked_places}
+use Rattle.topo_checker.specs.Listing.{Unlisted, ListTaken, marked_places}
 use Rattle.topo_checker.specs.Passing.{Fresh, MarkedBy, passing_over, MarkedChecked}
 use Rattle.topo_checker.specs.Room.{marks_size, Laid, LaidOut}
-use Rattle.topo_checker.specs.Said.{TakenAnswered}
 use Rattle.topo_checker.specs.declared.layout.OrderRoom.{OrderRoom}
-use Rattle.answers.specs.declared.TopoAnswer.{TopoAnswer}
-use Rattle.answers.specs.declared.TopoAnswer.TheVariants.{Yes, No, Refused}
-use Rattle.refusals.specs.declared.Refusal.TheVariants.{Unknown as UnknownNode}
-use Rattle.topo_checker.specs.declared.listing.Listed.{Listed}
-use Rattle.topo_checker.specs.declared.listing.Listed.TheVariants.{Marked, Unknown}
+use Rattle.refusals.specs.Said.{ruling_of}
+use Rattle.refusals.specs.declared.Refusal.{Refusal}
+use Rattle.std.specs.Prelude.{Result, Ok}
 use Rattle.topo_checker.proofs.Marks.{mark-some}
 use Rattle.topo_checker.proofs.Laying.{node-word, marks_in_scratch, laid_still}
 
@@ -46,35 +43,10 @@ unfolding decide
 decide-one passed = refl
 decide-one (refusal n v) = refl
 
--- ---- the answer for a list that is taken in
-
-module _ {b a : List ℕ} {at : Layout} {room : OrderRoom} {taken : Listed} where
-  pub unknown_said : {i : ℕ} → taken ≡ Unknown i → TakenAnswered b a at room taken (Refused (UnknownNode i)) a
-  unfolding answer
-  unknown_said is =
-      record { kept = within_none; says = λ places by. sym (ap (λ (u : Ruling). answer u (passing_over b a places)) (ap listed_said is)) }
-
-  module _ (all : taken ≡ Marked) {reply : Bool} {m : List ℕ} (checked : MarkedChecked b a at room reply m) where
-    replied : (places : List ℕ) → (listed_said taken ≡ passed → MarkedBy a at room places)
-        → answered (cond reply Reply.Yes Reply.No) ≡ answer (listed_said taken) (passing_over b a places)
-    unfolding answer
-    replied places by =
-        ap answered (checked.replies places (by (ap listed_said all)))
-        ∙ sym (ap (λ (u : Ruling). answer u (passing_over b a places)) (ap listed_said all))
-
-    pub yes_said : reply ≡ true → TakenAnswered b a at room taken Yes m
-    yes_said t =
-        record {
-          kept = checked.kept;
-          says = λ places by. sym (ap (λ (x : Bool). answered (cond x Reply.Yes Reply.No)) t) ∙ replied places by;
-        }
-
-    pub no_said : reply ≡ false → TakenAnswered b a at room taken No m
-    no_said t =
-        record {
-          kept = checked.kept;
-          says = λ places by. sym (ap (λ (x : Bool). answered (cond x Reply.Yes Reply.No)) t) ∙ replied places by;
-        }
+-- the check's answer as 01's
+told : (t : Bool) → topo_said (Ok t) ≡ answered (cond t Reply.Yes Reply.No)
+told true = refl
+told false = refl
 
 -- ---- 01's answer
 
@@ -82,7 +54,7 @@ module _ {b a : List ℕ} {at : Layout} {room : OrderRoom} (usable : Usable b a 
   pub unlisted : Unlisted m₁ at room
   unlisted = record { blank = out.unlisted }
 
-  module _ {list : List ℕ} {r : Listed} {m : List ℕ} (taken : ListTaken m₁ at room list r m) where
+  module _ {list : List ℕ} {r : Result (Unit {0}) Refusal} {m : List ℕ} (taken : ListTaken m₁ at room list r m) where
     within-marks : Within room.listed (marks_size room) m₁ m
     within-marks =
         within_wider taken.kept room.listed (marks_size room) (omega arith) (omega (arith, out.laid.placed))
@@ -96,19 +68,19 @@ module _ {b a : List ℕ} {at : Layout} {room : OrderRoom} (usable : Usable b a 
     pub fresh : Fresh m at room
     fresh = record { blank = λ j h. taken.kept.same (room.future + j) (inr (omega (arith, out.laid.placed))) ∙ out.fresh j h }
 
-    ruled : decide (order_rules b list) ≡ listed_said r
+    ruled : decide (order_rules b list) ≡ ruling_of r
     unfolding order_rules rule9
     ruled =
         decide-one (rule9 b list) ∙ ap (λ (k : ℕ). refuse 9 (earliest (leb k) list)) usable.read.nodes ∙ sym taken.said
 
     -- a mark tells whether the node at its place is listed
-    mark-is : listed_said r ≡ passed → (j : ℕ) → j < at.sizes.nodes → get_or m (room.listed + j) 0 ≡ one (member (node_at b m j) list)
+    mark-is : ruling_of r ≡ passed → (j : ℕ) → j < at.sizes.nodes → get_or m (room.listed + j) 0 ≡ one (member (node_at b m j) list)
     mark-is all j h =
         taken.marked all j h
         ∙ ap (λ (v : ℕ). one (member v list))
         (sym (taken.kept.same (at.order + j) (inl (omega (arith, out.laid.placed)))) ∙ sym (node-word laid_now.usable j h))
 
-    marked_by : listed_said r ≡ passed → MarkedBy m at room (places_of b m list)
+    marked_by : ruling_of r ≡ passed → MarkedBy m at room (places_of b m list)
     unfolding marked_places places_of
     marked_by all =
         record {
@@ -125,12 +97,20 @@ module _ {b a : List ℕ} {at : Layout} {room : OrderRoom} (usable : Usable b a 
         passing-is laid_now.usable.tables (sound b usable.links) (roomy laid_now.usable) list
         ∙ sym (order_check-same (tables_still usable kept) list)
 
-    pub order_answered : {t : TopoAnswer} {m' : List ℕ} → TakenAnswered b m at room r t m'
-        → Answered at a m' (topo_said t) (order_rules b list) (order_check b a list)
-    order_answered said =
+    -- an unknown node
+    pub unknown_answered : {n place : ℕ} → ruling_of r ≡ refusal n place → (reply : Reply) → Answered at a m (refused n place) (order_rules b list) reply
+    unfolding answer
+    unknown_answered e reply = record { says = ap (λ (u : Ruling). answer u reply) (sym (ruled ∙ e)); kept = kept }
+
+    pub order_answered : ruling_of r ≡ passed → {t : Bool} {m' : List ℕ} → MarkedChecked b m at room t m'
+        → Answered at a m' (topo_said (Ok t)) (order_rules b list) (order_check b a list)
+    unfolding answer
+    order_answered all {t} checked =
         record {
-          says = said.says (places_of b m list) marked_by ∙ ap₂ (λ (u : Ruling) (x : Reply). answer u x) (sym ruled) check_is;
+          says =
+              told t ∙ ap answered (checked.replies (places_of b m list) (marked_by all) ∙ check_is)
+              ∙ ap (λ (u : Ruling). answer u (order_check b a list)) (sym (ruled ∙ all));
           kept =
               within_both kept
-              (within_wider said.kept at.scratch (scratch_size at.sizes) (omega (arith, out.laid.placed)) (omega (arith, out.laid.placed)));
+              (within_wider checked.kept at.scratch (scratch_size at.sizes) (omega (arith, out.laid.placed)) (omega (arith, out.laid.placed)));
         }

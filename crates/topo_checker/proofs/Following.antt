@@ -188,9 +188,6 @@ module _ {b a : List ℕ} {at : Layout} {room : OrderRoom} {first last : ℕ} (l
       }
 
   module _ {i : ℕ} {m : List ℕ} (low : i ≤ last) (on : GoingOn b a at room first last i m) where
-    pub inside : i < at.sizes.nodes
-    inside = omega (arith, unpassed.known)
-
     within-marks : Within room.listed (marks_size room) a m
     within-marks = within_wider on.kept room.listed (marks_size room) (omega (arith, laid.placed)) (omega (arith, laid.placed))
 
@@ -209,7 +206,7 @@ module _ {b a : List ℕ} {at : Layout} {room : OrderRoom} {first last : ℕ} (l
         }
 
     module _ {r : Bool} {m' : List ℕ} (passed : PlacePassed b m at room first last i r m') where
-      pub both_kept : Within room.future at.sizes.nodes a m'
+      both_kept : Within room.future at.sizes.nodes a m'
       both_kept = within_both on.kept passed.kept
 
       -- the state that follows

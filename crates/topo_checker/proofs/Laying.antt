@@ -1,14 +1,12 @@
 -- Laying out the scratch: each section finds its own, and what is laid stands while the marks behind it are written.
 -- Rests on neighbours.Keeping, convexity_theory.Places and tables' Usable and Within.
 use Prim.Native.Nat.{ℕ, ◌+◌, ◌*◌, ◌≤◌, ◌<◌}
-use native.Mathlib.Decide.{dec_lt}
 use native.Mathlib.Omega.{arith}
 use mathlib.Core.Path.{◌≡◌, sym, ap, ap₂, ◌∙◌, subst}
 use mathlib.Core.Logic.{inl}
 use mathlib.Core.List.{List}
-use lib.ListN.{length, get_or, take, drop, set, replicate, length-replicate}
-use lib.Seq.{sets, get_or-set_same, get_or-set_other}
-use borrow.Author.Count.{below_none}
+use lib.ListN.{length, get_or, take, drop, replicate, length-replicate}
+use lib.Seq.{sets}
 use Rattle.lists.proofs.Sections.{part, get_d_part, get_or-sets_in}
 use Rattle.lists.proofs.Upto.{get_or-zeros}
 use Rattle.paper.specs.Map.{N}
@@ -23,7 +21,7 @@ use Rattle.tables.specs.Placed.{scratch_size}
 use Rattle.tables.specs.Usable.{Usable, Scratched}
 use Rattle.tables.specs.Within.{Within}
 use Rattle.tables.proofs.Usable.{roomy, still_usable}
-use Rattle.tables.proofs.Within.{within_none, within_both, within-sets, within-set, within_wider}
+use Rattle.tables.proofs.Within.{within_none, within_both, within-sets, within_wider}
 use Rattle.topo_checker.specs.Room.{Fits, marks_size, Ordered, PlacesKept, PlacesStand, Laid, LaidOut}
 use Rattle.topo_checker.specs.declared.layout.OrderRoom.{OrderRoom}
 use Rattle.topo_checker.proofs.Taking.{placed_still}
@@ -34,42 +32,6 @@ use Rattle.topo_checker.proofs.Taking.{placed_still}
 pub record KeptBelow (a : List ℕ) (at : Layout) (places i : ℕ) (m : List ℕ) : Type 0 where
   pub kept : Within places at.sizes.nodes a m
   pub placed : (j : ℕ) → j < i → get_or m (places + get_or a (at.order + j) 0) 0 ≡ j
-
-pub kept-none : {a : List ℕ} {at : Layout} {places : ℕ} → KeptBelow a at places 0 a
-kept-none = record { kept = within_none; placed = below_none _ }
-
-module _ {a : List ℕ} {at : Layout} {places : ℕ} (ordered : Ordered a at places) {i : ℕ} {m : List ℕ} (k : KeptBelow a at places i m) where
-  pub node-inside : i < at.sizes.nodes → at.order + i < length m
-  node-inside h = omega (arith, ordered.after, ordered.room, k.kept.long)
-
-  pub all-kept : i ≤ at.sizes.nodes → at.sizes.nodes ≤ i → PlacesKept a at places m
-  all-kept low high = record { kept = k.kept; placed = λ j h. k.placed j (omega arith) }
-
-  module _ (h : i < at.sizes.nodes) {v : ℕ} (read : v ≡ get_or m (at.order + i) 0) where
-    is : v ≡ get_or a (at.order + i) 0
-    is = read ∙ k.kept.same (at.order + i) (inl (omega (arith, ordered.after)))
-
-    pub place_inside : places + v < length m
-    place_inside = omega (arith, is, ordered.known i h, ordered.room, k.kept.long)
-
-    pub kept_next : KeptBelow a at places (i + 1) (set m (places + v) i)
-    kept_next =
-        record {
-          kept = within-set k.kept (places + v) i (omega arith) (omega (arith, is, ordered.known i h));
-          placed = λ j l. each j l (dec_lt j i);
-        }
-      where
-        each : (j : ℕ) → j < i + 1 → Dec (j < i) → get_or (set m (places + v) i) (places + get_or a (at.order + j) 0) 0 ≡ j
-        each j l (yes g) =
-            get_or-set_other m (places + v) (places + get_or a (at.order + j) 0) i 0
-            (λ e. omega (arith, ordered.apart j i (omega arith) h (omega (arith, is))))
-            ∙ k.placed j g
-        each j l (no g) = here j (omega arith)
-          where
-            here : (j : ℕ) → j ≡ i → get_or (set m (places + v) i) (places + get_or a (at.order + j) 0) 0 ≡ j
-            here j e =
-                ap (λ (w : ℕ). get_or (set m (places + v) i) (places + w) 0) (ap (λ (x : ℕ). get_or a (at.order + x) 0) e ∙ sym is)
-                ∙ get_or-set_same m (places + v) i 0 place_inside ∙ sym e
 
 -- ---- the order's words
 

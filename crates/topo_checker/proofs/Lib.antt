@@ -1,4 +1,5 @@
 pub mod Ends
+pub mod Found
 pub mod Kept
 pub mod Marks
 pub mod Taking
@@ -8,4 +9,3 @@ pub mod Nearby
 pub mod Following
 pub mod Marked
 pub mod Checking
-pub mod Answers

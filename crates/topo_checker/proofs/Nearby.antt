@@ -8,8 +8,6 @@ use mathlib.Core.Logic.{inl, inr}
 use mathlib.Core.Bool.{Bool, true, false, ◌&&◌, not, cond, and-false}
 use mathlib.Core.List.{List}
 use lib.ListN.{length, get_or, set}
-use mir.Syntax.{w64}
-use mir.Val.{Fits}
 use lib.Seq.{get_or-set_same, get_or-set_other}
 use lib.Dec.{eqb, leb}
 use borrow.Author.Tests.{le-leb, lt-leb, eq-eqb, ne_eqb}
@@ -64,20 +62,8 @@ module _ {b a : List ℕ} {at : Layout} {room : OrderRoom} (laid : Laid b a at r
   place-fits {x} e h = omega (arith, e, target-low laid x h, laid.placed)
 
   module _ {x j : ℕ} (is : j ≡ place_reached b a room x) (h : x < at.sizes.links) where
-    pub mark-fits : room.listed + j < length a
-    mark-fits = omega (arith, is, reached-low laid x h, laid.placed)
-
     pub marks-fit : (room.listed + j < length a) × (room.future + j < length a)
-    marks-fit = (mark-fits, omega (arith, is, reached-low laid x h, laid.placed))
-
--- .. and the number of a link fits a word
-pub number_fits : (x : ℕ) {links : ℕ} → links ≤ 2048 → x < links → Fits w64 x
-number_fits x few h = record { fits = omega arith }
-
--- a test's answer is that of the place
-pub listed_so : (b a : List ℕ) (room : OrderRoom) (x first last : ℕ) {j : ℕ} {s t : Bool} → j ≡ place_reached b a room x
-    → s ≡ is_listed a room.listed first last j → s ≡ t → is_listed a room.listed first last (place_reached b a room x) ≡ t
-listed_so b a room x first last is said e = ap (is_listed a room.listed first last) (sym is) ∙ sym said ∙ e
+    marks-fit = (omega (arith, is, reached-low laid x h, laid.placed), omega (arith, is, reached-low laid x h, laid.placed))
 
 module _ {b a : List ℕ} {at : Layout} {room : OrderRoom} (laid : Laid b a at room) where
   module _ {m : List ℕ} (kept : Within room.future at.sizes.nodes a m) where
@@ -102,10 +88,6 @@ module _ {b a : List ℕ} {at : Layout} {room : OrderRoom} (laid : Laid b a at r
       pub others-none : OthersMarked b a at room start 0 first last a
       unfolding leads_out
       others-none = record { kept = within_none; marked = λ j h. refl }
-
-      pub others-all : {x count : ℕ} {m : List ℕ} → OthersMarked b a at room start x first last m → x ≤ count → count ≤ x
-          → OthersMarked b a at room start count first last m
-      others-all {x} {count} {m} o low high = subst (λ (y : ℕ). OthersMarked b a at room start y first last m) (omega arith) o
 
       module _ {x : ℕ} {m : List ℕ} (o : OthersMarked b a at room start x first last m) (h : start + x < at.sizes.links) where
         passes : (j : ℕ) → j ≡ reach x → is_other a room.listed first last (reach x) ≡ true

@@ -1,6 +1,6 @@
 -- Taking in the list: after each entry a place is marked exactly if its node is among the entries; then the extent of the marked places.
 -- Rests on lists.First, tables.Within and Ends.
-use Prim.Native.Nat.{ℕ, zero, suc, ◌+◌, ◌*◌, ◌/◌, ◌≤◌, ◌<◌}
+use Prim.Native.Nat.{ℕ, zero, suc, ◌+◌, ◌≤◌, ◌<◌}
 use native.Mathlib.Decide.{ℕ_discrete}
 use native.Mathlib.Numerals.{add-one}
 use native.Mathlib.Omega.{arith}
@@ -15,21 +15,18 @@ use borrow.Author.Count.{below_more}
 use borrow.Author.Tests.{lt-ltb, le-ltb, ltb-true, ltb-false, le-leb, lt-leb, eq-eqb, ne_eqb, not-true, not-false}
 use Rattle.lists.specs.Lists.{upto, one, keep, member}
 use Rattle.lists.proofs.First.{first-is, first-none}
-use Rattle.lists.proofs.Upto.{upto-suc, keep_append, get_or-table}
-use Rattle.paper.specs.Map.{word}
-use Rattle.paper.specs.Words.{words_from}
+use Rattle.lists.proofs.Upto.{upto-suc, keep_append}
 use Rattle.paper.specs.Refusals.{refuse, earliest}
+use Rattle.refusals.specs.declared.Refusal.TheVariants.{Unknown}
 use Rattle.refusals.proofs.Rulings.{no_refusal}
+use Rattle.std.specs.Prelude.{Option, Some, None, Ok, Err}
 use Rattle.tables.specs.declared.Layout.{Layout}
 use Rattle.tables.specs.Within.{Within}
-use Rattle.tables.proofs.Within.{within_none, within-set, within_wider}
+use Rattle.tables.proofs.Within.{within-set}
 use Rattle.convexity_theory.proofs.places.Rows.{any_append}
-use Rattle.topo_checker.specs.Listing.{NodeTaken, Unlisted, ListTaken, marked_places, wider, extent_below, Spans, Under, ExtentOf}
+use Rattle.topo_checker.specs.Listing.{NodeTaken, ListTaken, marked_places, wider, extent_below, Spans, Under, ExtentOf}
 use Rattle.topo_checker.specs.Room.{marks_size, PlacesStand}
 use Rattle.topo_checker.specs.declared.layout.OrderRoom.{OrderRoom}
-use Rattle.topo_checker.specs.declared.listing.Listed.TheVariants.{Marked, Unknown}
-use Rattle.topo_checker.specs.declared.listing.Extent.{Extent}
-use Rattle.topo_checker.specs.declared.listing.Extent.TheVariants.{Nothing, One, Range}
 use Rattle.topo_checker.proofs.Ends.{greatest_more, least_more}
 
 -- ---- one node
@@ -72,18 +69,11 @@ pub record TakenBelow (a : List ℕ) (at : Layout) (room : OrderRoom) (list : Li
   pub kept : Within room.listed at.sizes.nodes a m
   pub marked : (j : ℕ) → j < at.sizes.nodes → get_or m (room.listed + j) 0 ≡ one (member (get_or a (at.order + j) 0) (take i list))
 
-pub taken_none : {a : List ℕ} {at : Layout} {room : OrderRoom} → Unlisted a at room → (list : List ℕ) → TakenBelow a at room list 0 a
-taken_none unlisted list =
-    record { known = λ k h. absurd (omega arith); kept = within_none; marked = λ j h. unlisted.blank j h }
-
 member_more : (x v : ℕ) (xs : List ℕ) (t : Bool) → eqb x v ≡ t → member x (xs ++ (v ∷ [])) ≡ (member x xs || t)
 member_more x v xs t e = any_append (eqb x) xs (v ∷ []) ∙ ap (λ (s : Bool). member x xs || s) (or-false (eqb x v) ∙ e)
 
 module _ {a : List ℕ} {at : Layout} {room : OrderRoom} (placed : PlacesStand a at room) {list : List ℕ} {i : ℕ} {m : List ℕ}
     (taken : TakenBelow a at room list i m) where
-  pub placed_now : PlacesStand m at room
-  placed_now = placed_still placed (within_wider taken.kept room.listed (marks_size room) (omega arith) (omega arith))
-
   module _ {v : ℕ} (inside : i < length list) (is : v ≡ get_or list i 0) {r : Bool} {m' : List ℕ} (node : NodeTaken m at room v r m') where
     pub taken_next : not r ≡ false → TakenBelow a at room list (i + 1) m'
     taken_next e =
@@ -130,7 +120,7 @@ module _ {a : List ℕ} {at : Layout} {room : OrderRoom} (placed : PlacesStand a
             ∙ entry j false (ne_eqb (get_or a (at.order + j) 0) v (λ e. ne (sym (placed.placed j h) ∙ ap (λ (k : ℕ). get_or a (room.places + k) 0) e)))
 
     -- the first unknown entry
-    pub unknown_taken : not r ≡ true → ListTaken a at room list (Unknown i) m'
+    pub unknown_taken : not r ≡ true → ListTaken a at room list (Err (Unknown i)) m'
     unfolding earliest refuse
     unknown_taken e =
         record {
@@ -143,7 +133,7 @@ module _ {a : List ℕ} {at : Layout} {room : OrderRoom} (placed : PlacesStand a
         test : ltb v at.sizes.nodes ≡ false
         test = sym node.known ∙ not-true r e
 
-  pub all-taken : length list ≤ i → i ≤ length list → ListTaken a at room list Marked m
+  pub all-taken : length list ≤ i → i ≤ length list → ListTaken a at room list (Ok tt) m
   unfolding earliest refuse
   all-taken high low =
       record {
@@ -152,44 +142,29 @@ module _ {a : List ℕ} {at : Layout} {room : OrderRoom} (placed : PlacesStand a
         marked = λ p j h. taken.marked j h ∙ ap (λ (xs : List ℕ). one (member (get_or a (at.order + j) 0) xs)) (take_all i list high);
       }
 
--- entry i of a list in bytes
-pub byte_entry : (bytes : List ℕ) (i : ℕ) → i < length bytes / 2 → {w v : ℕ} → w ≡ word bytes (2 * i) → v ≡ w → v ≡ get_or (words_from bytes) i 0
-unfolding words_from
-byte_entry bytes i h field wide = wide ∙ field ∙ sym (get_or-table (λ j. word bytes (2 * j)) (length bytes / 2) i 0 h)
-
 -- ---- the extent
 
-module _ (a : List ℕ) (marks i : ℕ) (e : Extent) {w : ℕ} (read : w ≡ get_or a (marks + i) 0) where
-  pub not_wider : w ≡ 0 → e ≡ cond (eqb (get_or a (marks + i) 0) 0) e (wider e i)
-  not_wider z = rw (eq-eqb (get_or a (marks + i) 0) 0 (sym read ∙ z))
-
-  pub is-wider : (w ≡ 0 → ⊥) → wider e i ≡ cond (eqb (get_or a (marks + i) 0) 0) e (wider e i)
-  is-wider ne = rw (ne_eqb (get_or a (marks + i) 0) 0 (λ z. ne (read ∙ z)))
-
-pub extent_next : (a : List ℕ) (marks i : ℕ) {e r : Extent} → e ≡ extent_below a marks i → r ≡ cond (eqb (get_or a (marks + i) 0) 0) e (wider e i)
+pub extent_next : (a : List ℕ) (marks i : ℕ) {e r : Option (ℕ × ℕ)} → e ≡ extent_below a marks i → r ≡ cond (eqb (get_or a (marks + i) 0) 0) e (wider e i)
     → r ≡ extent_below a marks (i + 1)
 unfolding extent_below
 extent_next a marks i is said =
-    said ∙ ap (λ (e : Extent). cond (eqb (get_or a (marks + i) 0) 0) e (wider e i)) is ∙ ap (extent_below a marks) (sym (add-one i))
+    said ∙ ap (λ (e : Option (ℕ × ℕ)). cond (eqb (get_or a (marks + i) 0) 0) e (wider e i)) is ∙ ap (extent_below a marks) (sym (add-one i))
 
-wider-spans : (places : List ℕ) (e : Extent) (i : ℕ) → Spans places e → Under i e → Spans (places ++ (i ∷ [])) (wider e i)
-wider-spans places Nothing i s u = ap (λ (xs : List ℕ). xs ++ (i ∷ [])) s
-wider-spans places (One first) i s u = subst (λ (xs : List ℕ). Spans (xs ++ (i ∷ [])) (Range first i)) (sym s) (omega arith, omega arith, omega arith)
-wider-spans places (Range first last) i s u = (
+wider-spans : (places : List ℕ) (e : Option (ℕ × ℕ)) (i : ℕ) → Spans places e → Under i e → Spans (places ++ (i ∷ [])) (wider e i)
+wider-spans places None i s u = subst (λ (xs : List ℕ). Spans (xs ++ (i ∷ [])) (Some (i, i))) (sym s) (omega arith, omega arith, omega arith)
+wider-spans places (Some ends) i s u = (
   omega (arith, s.0, length-append places (i ∷ [])),
-  least_more places i (omega (arith, s.0)) (omega (arith, s.2, u.1)) ∙ s.1,
+  least_more places i s.0 (omega (arith, s.2, u.1)) ∙ s.1,
   greatest_more places i (omega (arith, s.2, u.1)),
 )
 
-wider-under : (e : Extent) (i : ℕ) → Under i e → Under (suc i) (wider e i)
-wider-under Nothing i u = omega arith
-wider-under (One first) i u = (u, omega arith)
-wider-under (Range first last) i u = (omega (arith, u.0, u.1), omega arith)
+wider-under : (e : Option (ℕ × ℕ)) (i : ℕ) → Under i e → Under (suc i) (wider e i)
+wider-under None i u = (omega arith, omega arith)
+wider-under (Some ends) i u = (omega (arith, u.0, u.1), omega arith)
 
-under_more : (e : Extent) (i : ℕ) → Under i e → Under (suc i) e
-under_more Nothing i u = tt
-under_more (One first) i u = omega arith
-under_more (Range first last) i u = (u.0, omega (arith, u.1))
+under_more : (e : Option (ℕ × ℕ)) (i : ℕ) → Under i e → Under (suc i) e
+under_more None i u = tt
+under_more (Some ends) i u = (u.0, omega (arith, u.1))
 
 -- one place more, marked or not
 module _ (a : List ℕ) (marks n : ℕ) where
@@ -205,7 +180,7 @@ module _ (a : List ℕ) (marks n : ℕ) where
       last true e = rw e
       last false e = rw e
 
-  extent_more : {e : Extent} → ExtentOf a marks n e → ExtentOf a marks (suc n) (cond (eqb (get_or a (marks + n) 0) 0) e (wider e n))
+  extent_more : {e : Option (ℕ × ℕ)} → ExtentOf a marks n e → ExtentOf a marks (suc n) (cond (eqb (get_or a (marks + n) 0) 0) e (wider e n))
   extent_more {e} so = go (eqb (get_or a (marks + n) 0) 0) refl
     where
       go : (t : Bool) → eqb (get_or a (marks + n) 0) 0 ≡ t → ExtentOf a marks (suc n) (cond t e (wider e n))
@@ -225,6 +200,6 @@ unfolding extent_below marked_places
 extent_so a marks zero = record { spans = refl; under = tt }
 extent_so a marks (suc n) = extent_more a marks n (extent_so a marks n)
 
-pub extent_all : (a : List ℕ) (marks : ℕ) {n i : ℕ} {e : Extent} → e ≡ extent_below a marks i → i ≤ n → n ≤ i → ExtentOf a marks n e
+pub extent_all : (a : List ℕ) (marks : ℕ) {n i : ℕ} {e : Option (ℕ × ℕ)} → e ≡ extent_below a marks i → i ≤ n → n ≤ i → ExtentOf a marks n e
 extent_all a marks {n} {i} {e} is low high =
     subst (ExtentOf a marks n) (sym (is ∙ ap (extent_below a marks) (omega arith))) (extent_so a marks n)

@@ -2,4 +2,3 @@ pub mod Room
 pub mod Listing
 pub mod Near
 pub mod Passing
-pub mod Said

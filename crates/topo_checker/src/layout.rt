@@ -21,11 +21,9 @@ fn keep_places(at: Layout, area: &mut [u16], places: usize)
     requires { Ordered area.old at places }
     ensures { PlacesKept area.old at places area.new }
 {
-    let mut i = 0;
-    while i < at.sizes.nodes {
+    for i in 0..at.sizes.nodes {
         let v = word_at(area, at.order, i);
         area[places + v] = i as u16;
-        i += 1;
     }
 }
 
@@ -41,9 +39,9 @@ pub fn lay_out(b: &[u8], at: Layout, area: &mut [u16]) -> OrderRoom
     keep_places(at, area, places);
     fill(area, listed, 2 * at.sizes.nodes, 0);
     OrderRoom {
-        links: links,
-        listed: listed,
-        future: future,
-        places: places,
+        links,
+        listed,
+        future,
+        places,
     }
 }

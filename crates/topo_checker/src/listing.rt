@@ -1,12 +1,12 @@
 // The list as a set of places: a mark for each, and the first and the last of them (the Rust's `nodes` and `node_range`).
 ghost use Rattle.std.specs.Prelude.{◌≡◌, cond, ◌+◌, ◌≤◌, ◌<◌, eqb, length, get_or};
-ghost use Rattle.paper.specs.Words.{words_from};
 ghost use Rattle.topo_checker.specs.Listing.{ExtentOf, ListTaken, NodeTaken, Unlisted, wider};
 ghost use Rattle.topo_checker.specs.Room.{PlacesStand};
 
 use super::layout::OrderRoom;
+use refusals::Refusal;
 use tables::Layout;
-use words::field::{field_at, wide};
+use words::entries::Entries;
 use words::section::word_at;
 
 // Marks the place of node v, if there is such a node; whether there is.
@@ -22,81 +22,52 @@ pub fn take_node(at: Layout, area: &mut [u16], room: OrderRoom, v: usize) -> boo
     true
 }
 
-// A list whose nodes are all marked, or its first unknown entry.
-#[derive(Clone, Copy)]
-pub enum Listed {
-    Marked,
-    Unknown(usize),
-}
-
-// Takes in the list, an entry at a time: 9 is the first unknown one.
-pub fn take_list(at: Layout, area: &mut [u16], room: OrderRoom, list: &[u16]) -> Listed
+// Takes in the list, an entry at a time, and marks the places of its nodes: 9 is the first unknown one.
+pub fn take_list<E: Entries + Copy>(
+    at: Layout,
+    area: &mut [u16],
+    room: OrderRoom,
+    list: E,
+) -> Result<(), Refusal>
     requires places_stand { PlacesStand area.old at room }
     requires unlisted { Unlisted area.old at room }
-    ensures { ListTaken area.old at room list.now result area.new }
+    ensures { ListTaken area.old at room (E.entries list) result area.new }
 {
-    let mut i = 0;
-    while i < list.len() {
-        let v = wide(list[i]);
-        if !take_node(at, area, room, v) {
-            return Listed::Unknown(i);
+    for i in 0..list.count() {
+        if !take_node(at, area, room, usize::from(list.entry(i))) {
+            return Err(Refusal::Unknown(i));
         }
-        i += 1;
     }
-    Listed::Marked
+    Ok(())
 }
 
-// The same of a list whose words cross as bytes.
-pub fn take_list_bytes(at: Layout, area: &mut [u16], room: OrderRoom, list: &[u8]) -> Listed
-    requires places_stand { PlacesStand area.old at room }
-    requires unlisted { Unlisted area.old at room }
-    ensures { ListTaken area.old at room (words_from list.now) result area.new }
-{
-    let count = list.len() / 2;
-    let mut i = 0;
-    while i < count {
-        let v = wide(field_at(list, 2 * i));
-        if !take_node(at, area, room, v) {
-            return Listed::Unknown(i);
-        }
-        i += 1;
-    }
-    Listed::Marked
-}
-
-// How far a set of places goes: none, one, or from the first to the last of several.
-#[derive(Clone, Copy)]
-pub enum Extent {
-    Nothing,
-    One(usize),
-    Range(usize, usize),
-}
-
-// The extent with place i, which is higher than all before it, if it is marked.
-fn widened(area: &[u16], marks: usize, e: Extent, i: usize) -> Extent
+// The first and the last of a set of places with place i, which is higher than all before it, if it is marked.
+fn widened(
+    area: &[u16],
+    marks: usize,
+    ends: Option<(usize, usize)>,
+    i: usize,
+) -> Option<(usize, usize)>
     requires { marks + i < length area.now }
-    ensures { result ≡ cond (eqb (get_or area.now (marks + i) 0) 0) e (wider e i) }
+    ensures { result ≡ cond (eqb (get_or area.now (marks + i) 0) 0) ends (wider ends i) }
 {
     if word_at(area, marks, i) == 0 {
-        return e;
+        return ends;
     }
-    match e {
-        Extent::Nothing => Extent::One(i),
-        Extent::One(first) => Extent::Range(first, i),
-        Extent::Range(first, _) => Extent::Range(first, i),
+    match ends {
+        None => Some((i, i)),
+        Some((first, _)) => Some((first, i)),
     }
 }
 
-// The extent of the places marked.
-pub fn marked_extent(n: usize, area: &[u16], marks: usize) -> Extent
+// The first and the last of the places marked, if there are any.
+pub fn marked_extent(n: usize, area: &[u16], marks: usize) -> Option<(usize, usize)>
     requires { marks + n ≤ length area.now }
     ensures { ExtentOf area.now marks n result }
 {
-    let mut e = Extent::Nothing;
-    let mut i = 0;
-    while i < n {
-        e = widened(area, marks, e, i);
-        i += 1;
+    let mut ends = None;
+    for i in 0..n {
+        ends = widened(area, marks, ends, i);
     }
-    e
+    ends
 }

@@ -24,13 +24,7 @@ fn is_listed(area: &[u16], marks: usize, first: usize, last: usize, j: usize) ->
     requires { marks + j < length area.now }
     ensures { result ≡ is_listed area.now marks first last j }
 {
-    if j < first {
-        return false;
-    }
-    if last < j {
-        return false;
-    }
-    word_at(area, marks, j) != 0
+    first <= j && j <= last && word_at(area, marks, j) != 0
 }
 
 // Puts place j into the list's future, if it is in the range and not listed.
@@ -39,16 +33,9 @@ fn mark_other(area: &mut [u16], room: OrderRoom, first: usize, last: usize, j: u
     ensures { area.new
         ≡ cond (is_other area.old room.listed first last j) (set area.old (room.future + j) 1) area.old }
 {
-    if j < first {
-        return;
+    if first <= j && j <= last && word_at(area, room.listed, j) == 0 {
+        area[room.future + j] = 1;
     }
-    if last < j {
-        return;
-    }
-    if word_at(area, room.listed, j) != 0 {
-        return;
-    }
-    area[room.future + j] = 1;
 }
 
 // Whether one of the links from `start` on leads to a listed place in the range.
@@ -67,15 +54,10 @@ pub fn meets_listed(
     ensures { result
         ≡ any (λ x. is_listed area.now room.listed first last (place_reached b.now area.now room (start + x))) (upto count) }
 {
-    let mut x = 0;
-    while x < count {
+    (0..count).any(|x| {
         let j = place_reached(b, at, area, room, start + x);
-        if is_listed(area, room.listed, first, last, j) {
-            return true;
-        }
-        x += 1;
-    }
-    false
+        is_listed(area, room.listed, first, last, j)
+    })
 }
 
 // Puts the places in the range that the links from `start` on lead to, and that are not listed, into the list's future.
@@ -93,10 +75,8 @@ pub fn mark_others(
     requires count_bound { start + count ≤ at.sizes.links }
     ensures { OthersMarked b.now area.old at room start count first last area.new }
 {
-    let mut x = 0;
-    while x < count {
+    for x in 0..count {
         let j = place_reached(b, at, area, room, start + x);
         mark_other(area, room, first, last, j);
-        x += 1;
     }
 }

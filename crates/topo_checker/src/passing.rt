@@ -5,7 +5,7 @@ ghost use Rattle.topo_checker.specs.Passing.{Fresh, MarkedChecked, PlacePassed, 
 ghost use Rattle.topo_checker.specs.Room.{Laid};
 
 use super::layout::OrderRoom;
-use super::listing::{Extent, marked_extent};
+use super::listing::marked_extent;
 use super::near::{mark_others, meets_listed};
 use neighbours::targets_start;
 use tables::Layout;
@@ -56,24 +56,21 @@ fn fed_back(
     requires unpassed { Unpassed area.old at room first last }
     ensures { PlacesPassed b.now area.old at room first last result area.new }
 {
-    let mut i = first;
-    while i <= last {
+    for i in first..=last {
         if pass_place(b, at, area, room, first, last, i) {
             return true;
         }
-        i += 1;
     }
     false
 }
 
-// Whether the places marked as listed are convex: yes for one at most, and where no other place feeds them from their future.
+// Whether the places marked as listed are convex: yes for none, and where no other place feeds them from their future.
 pub fn marked_convex(b: &[u8], at: Layout, area: &mut [u16], room: OrderRoom) -> bool
     requires laid { Laid b.now area.old at room }
     requires fresh { Fresh area.old at room }
     ensures { MarkedChecked b.now area.old at room result area.new }
 {
-    let places = marked_extent(at.sizes.nodes, area, room.listed);
-    let Extent::Range(first, last) = places else {
+    let Some((first, last)) = marked_extent(at.sizes.nodes, area, room.listed) else {
         return true;
     };
     !fed_back(b, at, area, room, first, last)

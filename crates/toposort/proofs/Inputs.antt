@@ -59,7 +59,7 @@ module _ {b a : List ℕ} {at : Layout} {links : Listing} (start : Indexed b a a
   unfolding targets
   many = length-table (link_to b) l
 
-  pub tabled : Tabled b a n l at.sizes.ports links.firsts links.keys
+  pub tabled : Tabled b a at.sizes links
   tabled =
       record {
         read = start.linked.read;

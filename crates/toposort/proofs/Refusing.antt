@@ -9,16 +9,13 @@ use lib.Seq.{sets}
 use Rattle.lists.proofs.Sections.{sets-sets}
 use Rattle.paper.specs.Area.{cleared}
 use Rattle.paper.specs.Refusals.{Ruling, passed, refusal, answer, on_refusal, refused, answered, decide, rule6}
-use Rattle.refusals.specs.Said.{ruling}
-use Rattle.refusals.specs.declared.Refusal.TheVariants as Reason
+use Rattle.refusals.specs.Said.{ruled}
+use Rattle.refusals.specs.declared.Refusal.{Refusal}
 use Rattle.tables.specs.declared.Layout.{Layout}
 use Rattle.tables.specs.Within.{Within}
 use Rattle.tables.proofs.Within.{within-filled}
 use Rattle.neighbours.specs.declared.Listing.{Listing}
-use Rattle.toposort.specs.declared.queue.Order.{Order}
-use Rattle.toposort.specs.declared.queue.Order.TheVariants.{All, Cycle}
-use Rattle.toposort.specs.declared.ordering.Ordered.TheVariants.{Done, Refused}
-use Rattle.toposort.specs.Queue.{order_said}
+use Rattle.std.specs.Prelude.{Ok, Err}
 use Rattle.toposort.specs.Laid.{OrderLaid, Left}
 
 -- ---- a ruling passed up
@@ -77,17 +74,16 @@ written_over {n} {a} {m} inside fits ws many =
 
 -- ---- the two answers of the ordering, passed up
 
-module _ {b a : List ℕ} {at : Layout} {links : Listing} {m : List ℕ} (laid : OrderLaid b a at links m) {r : Order} (said : order_said r ≡ rule6 b) where
-  pub all-ordered : r ≡ All → Left b a (cleared b a) (rule6 b) (Done at links) m
-  unfolding ruling
-  all-ordered e = record { said = ap order_said (sym e) ∙ said; lies = laid }
+module _ {b a : List ℕ} {at : Layout} {links : Listing} {m : List ℕ} (laid : OrderLaid b a at links m) where
+  pub all-ordered : passed ≡ rule6 b → Left b a (cleared b a) (rule6 b) (Ok (record { at = at; links = links })) m
+  all-ordered said = record { said = said; lies = laid }
 
-  pub cycle-found : (v : ℕ) → r ≡ Cycle v → {z : List ℕ} → z ≡ sets m 0 (replicate at.end 0)
-      → Left b a (cleared b a) (rule6 b) (Refused (Reason.Cycle v)) z
-  unfolding ruling cleared
-  cycle-found v e f =
+  pub cycle-found : {x : Refusal} → ruled x ≡ rule6 b → {z : List ℕ} → z ≡ sets m 0 (replicate at.end 0)
+      → Left b a (cleared b a) (rule6 b) (Err x) z
+  unfolding cleared
+  cycle-found said f =
       record {
-        said = ap order_said (sym e) ∙ said;
+        said = said;
         lies =
             f ∙ within-filled laid.inside (omega (arith, laid.inside.long, laid.ready.room)) 0
             ∙ ap (λ (k : ℕ). sets a 0 (replicate k 0)) (sym laid.ready.placed.whole);

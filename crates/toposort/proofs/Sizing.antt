@@ -1,39 +1,34 @@
 -- What is left of a map that passes 1 and 2, and of any map, put together from the rules' answers.
--- Rests on Refusing, tables' Placed, refusals' Answers and stepmap's.
+-- Rests on Refusing and tables' Placed.
 use Prim.Native.Nat.{ℕ, ◌≤◌, ◌<◌}
 use native.Mathlib.Omega.{arith}
 use mathlib.Core.Path.{◌≡◌, refl, sym, ap, ◌∙◌, subst}
-use mathlib.Core.Logic.{◌≢◌}
 use mathlib.Core.List.{List, [], ◌∷◌}
 use borrow.Author.Tests.{lt-ltb, le-ltb}
 use lib.ListN.{length, replicate}
 use lib.Seq.{sets, length-sets}
 use Rattle.lists.specs.Found.{placed}
 use Rattle.lists.proofs.Sections.{sets-sets}
-use Rattle.paper.specs.Map.{N, L, P}
 use Rattle.paper.specs.Area.{W, cleared}
 use Rattle.paper.specs.Calls.{untouched, unprepared}
-use Rattle.paper.specs.Refusals.{Ruling, passed, refusal, refuse, Answer, answer, on_refusal, refused, answered, decide, rule1, rule2, rule3, rule45, rule6}
-use Rattle.refusals.specs.Said.{ruled, ruling}
+use Rattle.paper.specs.Refusals.{Ruling, passed, refusal, refuse, on_refusal, decide, rule1, rule2, rule3, rule45, rule6}
+use Rattle.refusals.specs.Said.{ruled}
 use Rattle.refusals.specs.declared.Refusal.{Refusal}
 use Rattle.refusals.specs.declared.Refusal.TheVariants.{NoRoom}
-use Rattle.refusals.proofs.Answers.{meant, meant_back}
-use Rattle.refusals.proofs.Rulings.{no_refusal}
 use Rattle.stepmap.specs.Formed.{ReadWell}
 use Rattle.stepmap.specs.declared.read.Sizes.{Sizes}
 use Rattle.tables.specs.declared.Layout.{Layout}
 use Rattle.tables.specs.Placed.{LaidOut, Placed}
 use Rattle.tables.proofs.Placed.{places}
-use Rattle.neighbours.specs.declared.Listing.{Listing}
 use Rattle.toposort.specs.declared.ordering.Ordered.{Ordered}
-use Rattle.toposort.specs.declared.ordering.Ordered.TheVariants.{Done, Refused}
-use Rattle.toposort.specs.Laid.{Ready, OrderLaid, Lies, Left, OrderLeft, ordered_said}
+use Rattle.std.specs.Prelude.{Result, Ok, Err}
+use Rattle.toposort.specs.Laid.{Ready, OrderLaid, Lies, Left, OrderLeft}
 use Rattle.toposort.proofs.Refusing.{passed-kept, refused_kept, next, here, alone, after, before}
 
 -- what lies over an area, or as a refusal leaves it, lies so over the same area
-lies_so : (b m : List ℕ) {z y kept left : List ℕ} (r : Ordered) → z ≡ y → kept ≡ left → Lies b z kept r m → Lies b y left r m
-lies_so b m (Done at links) e f lies = subst (λ (x : List ℕ). OrderLaid b x at links m) e lies
-lies_so b m (Refused x) e f lies = lies ∙ f
+lies_so : (b m : List ℕ) {z y kept left : List ℕ} (r : Result Ordered Refusal) → z ≡ y → kept ≡ left → Lies b z kept r m → Lies b y left r m
+lies_so b m (Ok o) e f lies = subst (λ (x : List ℕ). OrderLaid b x o.at o.links m) e lies
+lies_so b m (Err x) e f lies = lies ∙ f
 
 -- ---- 3: the room for W words
 
@@ -55,7 +50,7 @@ unfolding cleared
 cleared_again b a = sets-sets a 0 (replicate (W b) 0) (replicate (W b) 0) (omega arith)
 
 -- what is left of a map that passes 1 and 2
-abbrev SizedLeft : List ℕ → List ℕ → Ordered → List ℕ → Type 0
+abbrev SizedLeft : List ℕ → List ℕ → Result Ordered Refusal → List ℕ → Type 0
 SizedLeft b a r m =
     Left b (cleared b a) (on_refusal (rule3 b a) a (cleared b a)) (decide (rule3 b a ∷ rule45 b ∷ rule6 b ∷ [])) r m
 
@@ -67,8 +62,7 @@ module _ {b : List ℕ} {s : Sizes} {at : Layout} (read : ReadWell b s.nodes s.l
   placed_at = places read_at (subst (λ (z : Sizes). LaidOut z at) (sym out.sizes) out)
 
   module _ (a : List ℕ) where
-    pub no_room : {m : List ℕ} → length a < at.end → m ≡ a → SizedLeft b a (Refused NoRoom) m
-    unfolding ruling
+    pub no_room : {m : List ℕ} → length a < at.end → m ≡ a → SizedLeft b a (Err NoRoom) m
     no_room h e =
         let small : refusal 3 0 ≡ rule3 b a = short b a placed_at.whole h in
         record { said = here small (rule45 b ∷ rule6 b ∷ []); lies = refused_kept small (cleared b a) e }
@@ -81,8 +75,7 @@ module _ {b : List ℕ} {s : Sizes} {at : Layout} (read : ReadWell b s.nodes s.l
       is-cleared = clears b a placed_at.whole zeros
 
       -- 4 and 5: a bad link
-      pub bad_link_lem : (x : Refusal) → ruled x ≡ rule45 b → SizedLeft b a (Refused x) z
-      unfolding ruling
+      pub bad_link_lem : (x : Refusal) → ruled x ≡ rule45 b → SizedLeft b a (Err x) z
       bad_link_lem x e =
           record {
             said = here e (rule6 b ∷ []) ∙ next passes_3 (rule45 b ∷ rule6 b ∷ []);
@@ -99,7 +92,7 @@ module _ {b : List ℕ} {s : Sizes} {at : Layout} (read : ReadWell b s.nodes s.l
             room = omega (arith, ap length zeros, length-sets a 0 (replicate at.end 0));
           }
 
-      pub sound-links : passed ≡ rule45 b → {r : Ordered} {m : List ℕ} → Left b z (cleared b z) (rule6 b) r m → SizedLeft b a r m
+      pub sound-links : passed ≡ rule45 b → {r : Result Ordered Refusal} {m : List ℕ} → Left b z (cleared b z) (rule6 b) r m → SizedLeft b a r m
       sound-links f {r} {m} known =
           record {
             said = known.said ∙ alone (rule6 b) ∙ next f (rule6 b ∷ []) ∙ next passes_3 (rule45 b ∷ rule6 b ∷ []);
@@ -111,8 +104,8 @@ module _ {b : List ℕ} {s : Sizes} {at : Layout} (read : ReadWell b s.nodes s.l
 
 module _ (b a : List ℕ) where
   -- 1 or 2
-  pub unread : {m : List ℕ} (x : Refusal) → ruled x ≡ decide (rule1 b ∷ rule2 b ∷ []) → m ≡ a → OrderLeft b a (Refused x) m
-  unfolding untouched unprepared ruling
+  pub unread : {m : List ℕ} (x : Refusal) → ruled x ≡ decide (rule1 b ∷ rule2 b ∷ []) → m ≡ a → OrderLeft b a (Err x) m
+  unfolding untouched unprepared
   unread x d f =
       record {
         said = before (rule1 b ∷ rule2 b ∷ []) (rule3 b a ∷ rule45 b ∷ rule6 b ∷ []) d;
@@ -120,7 +113,7 @@ module _ (b a : List ℕ) where
       }
 
   -- .. else what is left of the map with its sizes
-  pub sized-left : {r : Ordered} {m : List ℕ} → passed ≡ decide (rule1 b ∷ rule2 b ∷ []) → SizedLeft b a r m → OrderLeft b a r m
+  pub sized-left : {r : Result Ordered Refusal} {m : List ℕ} → passed ≡ decide (rule1 b ∷ rule2 b ∷ []) → SizedLeft b a r m → OrderLeft b a r m
   unfolding untouched unprepared
   sized-left {r} {m} d known =
       record {
@@ -130,38 +123,3 @@ module _ (b a : List ℕ) where
             (ap (λ (u : Ruling). on_refusal u a (cleared b a)) (alone (rule3 b a) ∙ after (rule1 b ∷ rule2 b ∷ []) (rule3 b a ∷ []) d))
             known.lies;
       }
-
--- .. and sizes mean that 1 and 2 passed
-was_passed : {s : ℕ × ℕ × ℕ} (x : ℕ × ℕ × ℕ) (u : Ruling) → answered s ≡ answer u x → passed ≡ u
-unfolding answer
-was_passed x passed e = refl
-was_passed x (refusal j v) e = cc
-
-pub passes : (b : List ℕ) {s : ℕ × ℕ × ℕ} → answered s ≡ answer (decide (rule1 b ∷ rule2 b ∷ [])) (N b, L b, P b) → passed ≡ decide (rule1 b ∷ rule2 b ∷ [])
-passes b e = was_passed (N b, L b, P b) (decide (rule1 b ∷ rule2 b ∷ [])) e
-
--- ---- each answer's meaning tells its cases apart
-
-meant_order : Answer (Layout × Listing) → Ordered
-meant_order (answered (at, links)) = Done at links
-meant_order (refused i v) = Refused (meant (refusal i v))
-
-order-back : (r : Ordered) → meant_order (ordered_said r) ≡ r
-unfolding meant_order
-order-back (Done at links) = refl
-order-back (Refused x) = ap (λ (y : Refusal). Refused y) (meant_back x)
-
-pub ordered_said_injective : (r s : Ordered) → ordered_said r ≡ ordered_said s → r ≡ s
-ordered_said_injective r s e = sym (order-back r) ∙ ap meant_order e ∙ order-back s
-
--- what is not taken apart is a refusal
-
-pub is_refusal : (o : Ordered) → ((at : Layout) (links : Listing) → o ≡ Done at links → ⊥) → ruling (ordered_said o) ≢ passed
-unfolding ruling
-is_refusal (Done at links) h e = h at links refl
-is_refusal (Refused x) h e = no_refusal (sym e)
-
--- .. and leaves the area as it says
-pub refused_left : {b z kept : List ℕ} {u : Ruling} {m : List ℕ} (o : Ordered) → ((at : Layout) (links : Listing) → o ≡ Done at links → ⊥) → Left b z kept u o m → m ≡ kept
-refused_left (Done at links) h left = absurd (h at links refl)
-refused_left (Refused x) h left = left.lies

@@ -1,10 +1,7 @@
 -- The queue and the counters as sections of the area: what each step asks of it, and what it leaves.
--- Rests on lists and paper's Refusals.
+-- Rests on lists.
 use Rattle.std.specs.Prelude.{ℕ, ◌+◌, ◌-◌, ◌≤◌, ◌<◌, cond, List, length, get_or, set, eqb}
 use Rattle.lists.specs.Lists.{upto, keep}
-use Rattle.paper.specs.Refusals.{Ruling, passed, refusal}
-use Rattle.toposort.specs.declared.queue.Order.{Order}
-use Rattle.toposort.specs.declared.queue.Order.TheVariants.{All, Cycle}
 
 -- room for n nodes at `order`, and a counter for each at `counts`, after it
 pub record Counters (a : List ℕ) (order counts n : ℕ) : Type 0 where
@@ -37,8 +34,3 @@ lowered a counts w = set a (counts + w) (get_or a (counts + w) 0 - 1)
 unfoldable pub followed : List ℕ → ℕ → ℕ → ℕ → ℕ → List ℕ
 followed a order counts joined w =
     cond (eqb (get_or a (counts + w) 0) 1) (set (lowered a counts w) (order + joined) w) (lowered a counts w)
-
--- 6: "cycle, in preparing only", at the "lowest node never ordered"
-abbrev pub order_said : Order → Ruling
-order_said All = passed
-order_said (Cycle v) = refusal 6 v

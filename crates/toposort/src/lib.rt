@@ -1,5 +1,5 @@
 // Translated from src/algorithms/toposort.rs of portgraph (88172a3c8e, Apache-2.0, see NOTICE), and changed: the whole order is laid
-// into the lent area, unfiltered, from all nodes without linked inputs, and a cycle is an answer.
+// into the lent area, unfiltered, from all nodes without linked inputs, and a cycle is a refusal.
 #![tactic(auto)]
 
 pub mod ordering;
@@ -10,13 +10,14 @@ ghost use Rattle.std.specs.Prelude.{◌≡◌, []};
 ghost use Rattle.std.proofs.lemmas.List.Edits.{sets};
 ghost use Rattle.paper.specs.Order.{queue_after};
 ghost use Rattle.paper.specs.Refusals.{rule6};
-ghost use Rattle.toposort.specs.Queue.{order_said};
+ghost use Rattle.refusals.specs.Said.{ruling_of};
 ghost use Rattle.toposort.specs.Standing.{Indexed, laid, open_inputs, with_targets};
 
 use counting_sort::tally;
 use neighbours::Listing;
 use neighbours::keys::target_nodes;
-use queue::{Order, free_nodes, lowest_left};
+use queue::{free_nodes, lowest_left};
+use refusals::Refusal;
 use tables::Layout;
 use turns::all_turns;
 use words::section::fill;
@@ -28,19 +29,16 @@ fn count_inputs(b: &[u8], at: Layout, area: &mut [u16], links: Listing)
         ≡ sets (with_targets b.now area.old at links) links.end (open_inputs b.now at.sizes.nodes []) }
 {
     let n = at.sizes.nodes;
-    let l = at.sizes.links;
-    let p = at.sizes.ports;
-    let keys = links.keys;
     let counts = links.end;
-    target_nodes(b, n, l, p, area, links.firsts, keys);
+    target_nodes(b, at.sizes, area, links);
     fill(area, counts, n, 0);
-    tally(area, keys, l, counts, n);
+    tally(area, links.keys, at.sizes.links, counts, n);
 }
 
 // Orders the nodes into the order section (the Rust's `toposort`); on a cycle, names the lowest node never ordered.
-pub fn toposort(b: &[u8], at: Layout, area: &mut [u16], links: Listing) -> Order
+pub fn toposort(b: &[u8], at: Layout, area: &mut [u16], links: Listing) -> Result<(), Refusal>
     requires { Indexed b.now area.old at links }
-    ensures { (order_said result ≡ rule6 b.now)
+    ensures { (ruling_of result ≡ rule6 b.now)
         × (area.new ≡ laid b.now (with_targets b.now area.old at links) at links (queue_after b.now at.sizes.nodes)) }
 {
     let n = at.sizes.nodes;
@@ -48,5 +46,8 @@ pub fn toposort(b: &[u8], at: Layout, area: &mut [u16], links: Listing) -> Order
     count_inputs(b, at, area, links);
     let joined = free_nodes(area, at.order, counts, n);
     all_turns(b, at, area, links, joined);
-    lowest_left(area, counts, n)
+    match lowest_left(area, counts, n) {
+        None => Ok(()),
+        Some(v) => Err(Refusal::Cycle(v)),
+    }
 }

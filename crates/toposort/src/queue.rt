@@ -3,16 +3,8 @@
 ghost use Rattle.std.specs.Prelude.{◌≡◌, not, cond, ◌+◌, ◌≤◌, length, get_or, set, eqb};
 ghost use Rattle.std.proofs.lemmas.List.Edits.{sets};
 ghost use Rattle.lists.specs.Lists.{one};
-ghost use Rattle.lists.specs.Found.{first};
-ghost use Rattle.paper.specs.Refusals.{refuse};
-ghost use Rattle.toposort.specs.Queue.{Counters, Joining, Following, zero_counters, followed, order_said};
-
-// What ordering leaves: every node is ordered, or the lowest one that is not, which refusal 6 names.
-#[derive(Clone, Copy)]
-pub enum Order {
-    All,
-    Cycle(usize),
-}
+ghost use Rattle.lists.specs.Found.{first, found_of};
+ghost use Rattle.toposort.specs.Queue.{Counters, Joining, Following, zero_counters, followed};
 
 // Lets node v join the queue if its counter is 0; answers how many have joined.
 fn join_if_free(area: &mut [u16], order: usize, counts: usize, joined: usize, v: usize) -> usize
@@ -34,10 +26,8 @@ pub fn free_nodes(area: &mut [u16], order: usize, counts: usize, n: usize) -> us
         × (area.new ≡ sets area.old order (zero_counters area.old counts n)) }
 {
     let mut joined = 0;
-    let mut v = 0;
-    while v < n {
+    for v in 0..n {
         joined = join_if_free(area, order, counts, joined, v);
-        v += 1;
     }
     joined
 }
@@ -58,16 +48,14 @@ pub fn follow(area: &mut [u16], order: usize, counts: usize, joined: usize, w: u
 }
 
 // The lowest node whose counter is not 0: it was never ordered.
-pub fn lowest_left(area: &[u16], counts: usize, n: usize) -> Order
+pub fn lowest_left(area: &[u16], counts: usize, n: usize) -> Option<usize>
     requires { counts + n ≤ length area.now }
-    ensures { order_said result ≡ refuse 6 (first (λ v. not (eqb (get_or area.now (counts + v) 0) 0)) n) }
+    ensures { found_of result ≡ first (λ v. not (eqb (get_or area.now (counts + v) 0) 0)) n }
 {
-    let mut lowest = 0;
-    while lowest < n {
-        if area[counts + lowest] != 0 {
-            return Order::Cycle(lowest);
+    for v in 0..n {
+        if area[counts + v] != 0 {
+            return Some(v);
         }
-        lowest += 1;
     }
-    Order::All
+    None
 }

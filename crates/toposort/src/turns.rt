@@ -24,13 +24,12 @@ pub fn turn(
         × (area.new ≡ laid b.now area.old at links (queue_after b.now (t + 1))) }
 {
     let v = word_at(area, at.order, t);
-    let mut i = targets_start(b, at.sizes, area, links, v);
+    let start = targets_start(b, at.sizes, area, links, v);
     let end = targets_start(b, at.sizes, area, links, v + 1);
     let mut grown = joined;
-    while i < end {
+    for i in start..end {
         let w = target_at(b, at.sizes, area, links, i);
         grown = follow(area, at.order, links.end, grown, w);
-        i += 1;
     }
     grown
 }
@@ -43,6 +42,7 @@ pub fn all_turns(b: &[u8], at: Layout, area: &mut [u16], links: Listing, joined:
 {
     let mut ordered = joined;
     let mut t = 0;
+    // The bound moves: nodes join while they are taken, so no range counts the turns.
     while t < ordered {
         ordered = turn(b, at, area, links, t, ordered);
         t += 1;

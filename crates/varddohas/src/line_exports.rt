@@ -20,7 +20,7 @@ use byte_calls::line_convex_checker::{
 };
 use convex::line_convex_checker::lines_at_port;
 use crossing::{area_room, read_area};
-use telling::{tell_extended, tell_intervals, tell_line, tell_nodes, tell_port};
+use telling::{tell_count, tell_line, tell_port, tell_written};
 use words::bytes::put_words;
 
 // Line check: 1 yes or 2 no with the count, or 3 refused (1 to 5, 7, 8, 9, 10).
@@ -42,8 +42,8 @@ pub extern "C" fn varddohas_line_is_node_convex(
 {
     let mut room = area_room();
     let words = read_area(area, &mut room);
-    let answer = is_node_convex(map, &mut room[0..words], list);
-    put_words(&room[0..words], area);
+    let answer = is_node_convex(map, &mut room[..words], list);
+    put_words(&room[..words], area);
     tell_line(answer, count, number, place)
 }
 
@@ -69,8 +69,8 @@ pub extern "C" fn varddohas_line_is_convex(
 {
     let mut room = area_room();
     let words = read_area(area, &mut room);
-    let answer = is_convex(map, &mut room[0..words], list, inputs, outputs);
-    put_words(&room[0..words], area);
+    let answer = is_convex(map, &mut room[..words], list, inputs, outputs);
+    put_words(&room[..words], area);
     tell_line(answer, count, number, place)
 }
 
@@ -91,8 +91,8 @@ pub extern "C" fn varddohas_is_convex_by_intervals(
 {
     let mut room = area_room();
     let words = read_area(area, &mut room);
-    let answer = is_convex_by_intervals(map, &mut room[0..words], records, many);
-    put_words(&room[0..words], area);
+    let answer = is_convex_by_intervals(map, &mut room[..words], records, many);
+    put_words(&room[..words], area);
     tell_line(answer, count, number, place)
 }
 
@@ -113,9 +113,9 @@ pub extern "C" fn varddohas_get_intervals_from_nodes(
 {
     let mut room = area_room();
     let words = read_area(area, &mut room);
-    let answer = get_intervals_from_nodes(map, &mut room[0..words], list, buffer);
-    put_words(&room[0..words], area);
-    tell_intervals(answer, count, number, place)
+    let answer = get_intervals_from_nodes(map, &mut room[..words], list, buffer);
+    put_words(&room[..words], area);
+    tell_written(answer, count, number, place)
 }
 
 // Extend: 1 with how many records there are then, 2 not extendable, or 3 refused (1 to 5, 7, 9, 12, 13, 11).
@@ -136,9 +136,9 @@ pub extern "C" fn varddohas_try_extend_intervals(
 {
     let mut room = area_room();
     let words = read_area(area, &mut room);
-    let answer = try_extend_intervals(map, &mut room[0..words], records, many, node);
-    put_words(&room[0..words], area);
-    tell_extended(answer, count, number, place)
+    let answer = try_extend_intervals(map, &mut room[..words], records, many, node);
+    put_words(&room[..words], area);
+    tell_written(answer, count, number, place)
 }
 
 // Nodes in records: 1 with how many were written, or 3 refused (1 to 5, 7, 12, 13, 11).
@@ -159,9 +159,9 @@ pub extern "C" fn varddohas_nodes_in_intervals(
 {
     let mut room = area_room();
     let words = read_area(area, &mut room);
-    let answer = nodes_in_intervals(map, &mut room[0..words], records, many, buffer);
-    put_words(&room[0..words], area);
-    tell_nodes(answer, count, number, place)
+    let answer = nodes_in_intervals(map, &mut room[..words], records, many, buffer);
+    put_words(&room[..words], area);
+    tell_count(answer, count, number, place)
 }
 
 // Lines at a port: 1 with the first one's place in its node's list and the count, or 3 refused (1 to 5, 7, 14).
@@ -181,8 +181,8 @@ pub extern "C" fn varddohas_lines_at_port(
 {
     let mut room = area_room();
     let words = read_area(area, &mut room);
-    let answer = lines_at_port(map, &mut room[0..words], port);
-    put_words(&room[0..words], area);
+    let answer = lines_at_port(map, &mut room[..words], port);
+    put_words(&room[..words], area);
     tell_port(answer, first, count, number, place)
 }
 
@@ -204,6 +204,6 @@ pub extern "C" fn varddohas_view_lines_at_port(
 {
     let mut room = area_room();
     let words = read_area(area, &mut room);
-    let answer = view_at_port(map, &room[0..words], port);
+    let answer = view_at_port(map, &room[..words], port);
     tell_port(answer, offset, count, number, place)
 }

@@ -7,7 +7,7 @@ ghost use Rattle.paper.specs.Words.{words_from};
 
 use byte_calls::path::show_path;
 use crossing::{area_room, read_area};
-use telling::tell_path;
+use telling::tell_written;
 use words::bytes::put_words;
 
 // Show the path: 1 with how many steps were written, 2 no path, or 3 refused (1 to 5, 7, 8, 9, 10, 11).
@@ -30,7 +30,7 @@ pub extern "C" fn varddohas_show_path(
 {
     let mut room = area_room();
     let words = read_area(area, &mut room);
-    let answer = show_path(map, &mut room[0..words], list, buffer);
-    put_words(&room[0..words], area);
-    tell_path(answer, count, number, place)
+    let answer = show_path(map, &mut room[..words], list, buffer);
+    put_words(&room[..words], area);
+    tell_written(answer, count, number, place)
 }

@@ -6,7 +6,7 @@ ghost use Rattle.paper.specs.Words.{words_from};
 
 use convex::prepare::prepare;
 use crossing::{area_room, read_area};
-use telling::tell_prepared;
+use telling::tell_count;
 use words::bytes::put_words;
 
 // Preparing: 1 with K, or 3 refused (1 to 6).
@@ -24,7 +24,7 @@ pub extern "C" fn varddohas_prepare(
 {
     let mut room = area_room();
     let words = read_area(area, &mut room);
-    let answer = prepare(map, &mut room[0..words]);
-    put_words(&room[0..words], area);
-    tell_prepared(answer, lines, number, place)
+    let answer = prepare(map, &mut room[..words]);
+    put_words(&room[..words], area);
+    tell_count(answer, lines, number, place)
 }

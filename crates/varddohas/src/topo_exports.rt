@@ -27,8 +27,8 @@ pub extern "C" fn varddohas_topo_is_node_convex(
 {
     let mut room = area_room();
     let words = read_area(area, &mut room);
-    let answer = is_node_convex(map, &mut room[0..words], list);
-    put_words(&room[0..words], area);
+    let answer = is_node_convex(map, &mut room[..words], list);
+    put_words(&room[..words], area);
     tell_order(answer, number, place)
 }
 
@@ -53,7 +53,7 @@ pub extern "C" fn varddohas_topo_is_convex(
 {
     let mut room = area_room();
     let words = read_area(area, &mut room);
-    let answer = is_convex(map, &mut room[0..words], list, inputs, outputs);
-    put_words(&room[0..words], area);
+    let answer = is_convex(map, &mut room[..words], list, inputs, outputs);
+    put_words(&room[..words], area);
     tell_order(answer, number, place)
 }

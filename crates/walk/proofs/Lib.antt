@@ -7,4 +7,3 @@ pub mod Good
 pub mod Running
 pub mod Laying
 pub mod Starting
-pub mod Answers

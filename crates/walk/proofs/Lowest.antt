@@ -1,17 +1,20 @@
--- The loops over records and over a node's lines: one record more, and one line more.
+-- The records' lowest positions, the largest of them and by line, and a test for each of a node's lines.
 -- Rests on the definitions (Lows).
-use Prim.Native.Nat.{ℕ, zero, suc, ◌+◌, ◌*◌, ◌≤◌, ◌<◌, max}
+use Prim.Native.Nat.{ℕ, zero, suc, ◌+◌, ◌*◌, ◌<◌, max}
 use native.Mathlib.Numerals.{add-one}
 use native.Mathlib.Omega.{arith}
 use mathlib.Core.Path.{◌≡◌, refl, sym, ap, ap₂, ◌∙◌, subst}
-use mathlib.Core.Bool.{Bool, true, false, ◌||◌, or-true}
+use mathlib.Core.Bool.{Bool, ◌||◌}
 use mathlib.Core.List.{List, [], ◌∷◌, ◌++◌, map}
 use lib.ListN.{length, get_or, set, length-set}
 use lib.Dec.{ltb}
-use borrow.Author.Tests.{lt-ltb, le-ltb}
-use Rattle.lists.specs.Lists.{any, greatest}
+use Rattle.std.specs.List.{fold, list_any, range_with_len, reduce}
+use Rattle.std.specs.Option.{option_map, unwrap_or}
+use Rattle.std.specs.Prelude.{Option}
+use Rattle.std.proofs.lemmas.Grind.{get_or_default_zero}
+use Rattle.std.proofs.lemmas.Iterator.Adapters.{option_map_id}
+use Rattle.lists.specs.Lists.{any, from, greatest}
 use Rattle.lists.proofs.Upto.{table-suc}
-use Rattle.paper.specs.Intervals.{Interval}
 use Rattle.paper.specs.Records.{record_at, records_in}
 use Rattle.paper.specs.Walk.{M}
 use Rattle.tables.specs.declared.Layout.{Layout}
@@ -24,20 +27,26 @@ records-next words i = table-suc (record_at words) i
 
 -- ---- the largest of the lowest positions
 
-greatest_more : (rs : List Interval) (r : Interval)
-    → greatest (map (λ q. q.lowest) (rs ++ (r ∷ []))) ≡ max (greatest (map (λ q. q.lowest) rs)) r.lowest
-greatest_more [] r = omega arith
-greatest_more (q ∷ rs) r = omega (arith, greatest_more rs r)
+fold_greatest : (x : ℕ) (xs : List ℕ) → fold max x xs ≡ max x (greatest xs)
+fold_greatest x [] = omega arith
+fold_greatest x (y ∷ ys) = omega (arith, fold_greatest (max x y) ys)
 
-pub largest_none : (words : List ℕ) → 0 ≡ M (records_in words 0)
+largest_of : (xs : List ℕ) → unwrap_or (reduce max xs) 0 ≡ greatest xs
+largest_of [] = refl
+largest_of (x ∷ xs) = fold_greatest x xs
+
+lowest_positions : (words : List ℕ) (k n : ℕ) → map (λ i. get_or words (3 * i + 1) 0) (range_with_len k n) ≡ map (λ r. r.lowest) (map (record_at words) (from k n))
+unfolding record_at
+lowest_positions words k zero = refl
+lowest_positions words k (suc n) =
+    ap (λ (xs : List ℕ). get_or words (3 * k + 1) 0 ∷ xs) (ap (λ (j : ℕ). map (λ i. get_or words (3 * i + 1) 0) (range_with_len j n)) (add-one k) ∙ lowest_positions words (suc k) n)
+
+pub largest-is : (words : List ℕ) (count : ℕ) (largest : Option ℕ) → option_map (λ x. x) largest ≡ reduce max (map (λ i. get_or words (3 * i + 1) 0) (range_with_len 0 count))
+    → unwrap_or largest 0 ≡ M (records_in words count)
 unfolding M records_in
-largest_none words = refl
-
-pub largest_next : (words : List ℕ) (i : ℕ) {x largest : ℕ} → largest ≡ M (records_in words i) → x ≡ get_or words (3 * i + 1) 0
-    → max largest x ≡ M (records_in words (i + 1))
-unfolding M record_at
-largest_next words i now read =
-    ap₂ max now read ∙ sym (greatest_more (records_in words i) (record_at words i)) ∙ sym (ap M (ap (records_in words) (add-one i) ∙ records-next words i))
+largest-is words count largest e =
+    ap (λ (o : Option ℕ). unwrap_or o 0) (sym (option_map_id largest) ∙ e) ∙ largest_of (map (λ i. get_or words (3 * i + 1) 0) (range_with_len 0 count))
+    ∙ ap greatest (lowest_positions words 0 count)
 
 -- ---- the lowest positions by line
 
@@ -63,39 +72,19 @@ module _ (a : List ℕ) (lows : ℕ) (words : List ℕ) (i : ℕ) {area : List �
 
 -- ---- a node's lines
 
-any_here : (f : ℕ → Bool) (xs : List ℕ) (i : ℕ) → i < length xs → f (get_or xs i 0) ≡ true → any f xs ≡ true
-any_here f [] i h e = absurd (omega arith)
-any_here f (x ∷ xs) zero h e = ap (λ (t : Bool). t || any f xs) e
-any_here f (x ∷ xs) (suc i) h e = ap (λ (t : Bool). f x || t) (any_here f xs i (omega arith) e) ∙ or-true (f x)
-
-any_nowhere : (f : ℕ → Bool) (xs : List ℕ) → ((i : ℕ) → i < length xs → f (get_or xs i 0) ≡ false) → any f xs ≡ false
-any_nowhere f [] h = refl
-any_nowhere f (x ∷ xs) h = ap₂ ◌||◌ (h 0 (omega arith)) (any_nowhere f xs (λ i l. h (suc i) (omega arith)))
-
-module _ (a : List ℕ) (at : Layout) (lows v : ℕ) {lines : List ℕ} {pos : ℕ} (entries : lines ≡ entries_of a at.begins at.lines v)
-    (position : pos ≡ get_or a (at.positions + v) 0) where
-  low : ℕ → Bool
-  low x = ltb pos (get_or a (lows + x) 0)
-
-  below-is : below_lows a at lows v ≡ any low lines
-  unfolding below_lows low
-  below-is = ap₂ (λ (xs : List ℕ) (q : ℕ). any (λ x. ltb q (get_or a (lows + x) 0)) xs) (sym entries) (sym position)
-
-  pub line-inside : Asked a at lows v → (i : ℕ) {x : ℕ} → i < length lines → x ≡ get_or lines i 0 → lows + x < length a
+module _ (a : List ℕ) (at : Layout) (lows v : ℕ) {lines : List ℕ} (entries : lines ≡ entries_of a at.begins at.lines v) where
+  pub line-inside : Asked a at lows v → (i : ℕ) {x : ℕ} → i < length lines → x ≡ get_or lines i x → lows + x < length a
   line-inside asked i {x} h line =
-      subst (λ (y : ℕ). lows + y < length a) (ap (λ (xs : List ℕ). get_or xs i 0) (sym entries) ∙ sym line)
+      subst (λ (y : ℕ). lows + y < length a)
+      (ap (λ (xs : List ℕ). get_or xs i 0) (sym entries) ∙ sym (line ∙ get_or_default_zero lines i x h))
       (asked.inside i (omega (arith, ap length entries)))
 
-  -- a line on which it stands below
-  pub below-here : (i : ℕ) {x lowest : ℕ} → i < length lines → x ≡ get_or lines i 0 → lowest ≡ get_or a (lows + x) 0 → pos < lowest → true ≡ below_lows a at lows v
-  unfolding low
-  below-here i {x} h line word less =
-      sym (below-is ∙ any_here low lines i h (lt-ltb pos _ (omega (arith, ap (λ (y : ℕ). get_or a (lows + y) 0) line))))
-
-  -- one more line on which it does not
-  pub not_below : (i : ℕ) {x lowest : ℕ} → x ≡ get_or lines i 0 → lowest ≡ get_or a (lows + x) 0 → lowest ≤ pos → get_or a (lows + get_or lines i 0) 0 ≤ pos
-  not_below i line word less = omega (arith, ap (λ (y : ℕ). get_or a (lows + y) 0) line)
-
-  pub below_nowhere : (i : ℕ) → length lines ≤ i → ((k : ℕ) → k < i → get_or a (lows + get_or lines k 0) 0 ≤ pos) → false ≡ below_lows a at lows v
-  unfolding low
-  below_nowhere i all passed = sym (below-is ∙ any_nowhere low lines (λ k h. le-ltb pos _ (passed k (omega arith))))
+  pub below-is : {pos : ℕ} {r : Bool} → pos ≡ get_or a (at.positions + v) 0 → r ≡ list_any (λ x. ltb pos (get_or a (lows + x) 0)) lines → r ≡ below_lows a at lows v
+  unfolding below_lows
+  below-is {pos} position said =
+      said ∙ any_is (λ x. ltb pos (get_or a (lows + x) 0)) lines
+      ∙ ap₂ (λ (xs : List ℕ) (q : ℕ). any (λ x. ltb q (get_or a (lows + x) 0)) xs) entries position
+    where
+      any_is : (f : ℕ → Bool) (xs : List ℕ) → list_any f xs ≡ any f xs
+      any_is f [] = refl
+      any_is f (x ∷ xs) = ap (λ (t : Bool). f x || t) (any_is f xs)

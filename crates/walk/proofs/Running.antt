@@ -3,13 +3,14 @@
 use Prim.Native.Nat.{ℕ, suc, ◌+◌, ◌≤◌, ◌<◌}
 use native.Mathlib.Omega.{arith}
 use native.Mathlib.Numerals.{add-one}
-use mathlib.Core.Path.{◌≡◌, sym, ap, ap₂, ◌∙◌, subst}
+use mathlib.Core.Path.{◌≡◌, sym, ap, ap₂, ◌∙◌}
 use mathlib.Core.Logic.{inr}
 use mathlib.Core.Bool.{Bool, cond}
 use mathlib.Core.List.{List}
 use lib.ListN.{length, get_or}
 use lib.Dec.{ltb}
 use borrow.Author.Tests.{lt-ltb}
+use Rattle.std.specs.Prelude.{Option, Some, None}
 use Rattle.lists.specs.Lists.{any}
 use Rattle.lists.proofs.Sections.{part, length_part, get_d_part}
 use Rattle.paper.specs.Map.{N, out_neighbours}
@@ -23,6 +24,7 @@ use Rattle.walk_theory.proofs.Joined.{joined-known}
 use Rattle.walk_theory.proofs.Answers.{stopped_no, ended_yes}
 use Rattle.accepted_theory.specs.SameTables.{KnownLine, SameTables}
 use Rattle.accepted_theory.proofs.Every.{any-every}
+use Rattle.answers.specs.declared.Verdict.TheVariants.{Yes, No}
 use Rattle.tables.specs.declared.Layout.{Layout}
 use Rattle.tables.specs.Placed.{scratch_size}
 use Rattle.tables.specs.Usable.{Usable, Scratched}
@@ -32,12 +34,9 @@ use Rattle.tables.proofs.Usable.{tables_still, still_usable}
 use Rattle.walk.specs.Queue.{Queued}
 use Rattle.walk.specs.Lows.{low_on, below_lows}
 use Rattle.walk.specs.Fitting.{Fits, Queueing}
-use Rattle.walk.specs.Turns.{turn_said, visit_in, Turning, GoesOn, Turned}
+use Rattle.walk.specs.Turns.{turn_said, visit_in, Turning, Turned}
 use Rattle.walk.specs.Walks.{Started, Ended}
 use Rattle.walk.specs.declared.starts.Room.{Room}
-use Rattle.walk.specs.declared.turns.Step.{Step}
-use Rattle.walk.specs.declared.turns.Step.TheVariants.{Goes, Stops}
-use Rattle.walk.specs.declared.turns.Walked.TheVariants.{Yes, No}
 use Rattle.walk.proofs.Below.{lows_say}
 use Rattle.walk.proofs.Good.{line_unused}
 use Rattle.neighbours.proofs.Keeping.{linked-kept}
@@ -114,7 +113,7 @@ module _ {b a words : List ℕ} {count : ℕ} {at : Layout} {room : Room} {joine
       turning few =
           record { usable = usable kept; fits = st.laid.fits; linked = linked-kept st.laid.linked kept (omega (arith, st.laid.fits)); queued = queued; taken = taken; few = few }
 
-      module _ {top : ℕ} (largest : top ≡ M rs) (few : counted ≤ t) {r : Step} {o : List ℕ} (turned : Turned b m at room top t grown counted r o) where
+      module _ {top : ℕ} (largest : top ≡ M rs) (few : counted ≤ t) {r : Option (ℕ × ℕ)} {o : List ℕ} (turned : Turned b m at room top t grown counted r o) where
         front : ℕ
         front = get_or (part m room.queue grown) t 0
 
@@ -125,7 +124,7 @@ module _ {b a words : List ℕ} {count : ℕ} {at : Layout} {room : Room} {joine
         kept_on : Queueing at room a o
         kept_on = within_both kept turned.kept
 
-        state-next : marked_after b a rs (t + 1) ≡ turn_said o room.queue r
+        state-next : marked_after b a rs (t + 1) ≡ turn_said o room.queue counted r
         unfolding marked_after turn_marked front
         state-next =
             ap (marked_after b a rs) (add-one t) ∙ ap (turn_marked b a rs t) now
@@ -138,26 +137,19 @@ module _ {b a words : List ℕ} {count : ℕ} {at : Layout} {room : Room} {joine
             known = joined-known queued.nodes t (omega (arith, long))
 
       -- the answer is no
-      pub ended_no : {top : ℕ} → top ≡ M rs → counted ≤ t → {o : List ℕ} {r : Step} {stop : ℕ} → Turned b m at room top t grown counted r o
-          → r ≡ Stops stop → Ended b a words count at room (No stop) o
-      ended_no largest few {o} {r} {stop} turned e =
+      pub ended_no : {top : ℕ} → top ≡ M rs → counted ≤ t → {o : List ℕ} → Turned b m at room top t grown counted None o
+          → Ended b a words count at room (No (counted + 1)) o
+      ended_no largest few turned =
           record {
             said =
                 sym
-                (stopped_no (sound b st.laid.usable.links) a rs (t + 1) stop
-                (state-next largest few turned ∙ ap (turn_said o room.queue) e));
+                (stopped_no (sound b st.laid.usable.links) a rs (t + 1) (counted + 1)
+                (state-next largest few turned ∙ ap stopped (sym (add-one counted))));
             kept = kept_on largest few turned;
           }
 
       -- the walk goes on
-      pub went_on : {top : ℕ} → top ≡ M rs → counted ≤ t → {o : List ℕ} {r : Step} {more passed : ℕ} → Turned b m at room top t grown counted r o
-          → r ≡ Goes more passed
+      pub went_on : {top : ℕ} → top ≡ M rs → counted ≤ t → {o : List ℕ} {more passed : ℕ} → Turned b m at room top t grown counted (Some (more, passed)) o
           → (passed ≤ t + 1) × Queued o room.queue at.sizes.nodes more × Queueing at room a o
           × (marked_after b a rs (t + 1) ≡ going (part o room.queue more) passed)
-      went_on largest few {o} turned e =
-          let on = subst (GoesOn o room.queue at.sizes.nodes counted) e turned.on in (
-            omega (arith, on.1),
-            on.0,
-            kept_on largest few turned,
-            state-next largest few turned ∙ ap (turn_said o room.queue) e,
-          )
+      went_on largest few turned = (omega (arith, turned.on.1), turned.on.0, kept_on largest few turned, state-next largest few turned)

@@ -22,6 +22,7 @@ use Rattle.accepted_theory.specs.SameTables.{KnownNode, SameTables}
 use Rattle.accepted_theory.proofs.Walk.{next_on-same, next_on-known, start_nodes-same, walk_same}
 use Rattle.on_line.specs.Along.{positions_along, next_along}
 use Rattle.on_line.proofs.Along.{line_at, along-is, next-is}
+use Rattle.answers.specs.declared.Verdict.{Verdict}
 use Rattle.tables.specs.declared.Layout.{Layout}
 use Rattle.tables.specs.Usable.{Usable, Scratched}
 use Rattle.tables.specs.Recorded.{Recorded}
@@ -33,7 +34,6 @@ use Rattle.walk.specs.Fitting.{Queueing}
 use Rattle.walk.specs.Walks.{Laid, Ended, Walks}
 use Rattle.walk.specs.Starts.{Starting, LaidOut, Begun}
 use Rattle.walk.specs.declared.starts.Room.{Room}
-use Rattle.walk.specs.declared.turns.Walked.{Walked}
 use Rattle.walk.proofs.Joining.{grown-none, grown_both}
 use Rattle.walk.proofs.Lowest.{records-next}
 use Rattle.walk.proofs.Good.{line_known, highest-stands, records-known}
@@ -139,7 +139,7 @@ module _ {b a words : List ℕ} {count : ℕ} {at : Layout} {room : Room} (laid 
 -- ---- the whole walk
 
 module _ {b a words : List ℕ} {count : ℕ} {at : Layout} (usable : Usable b a at) (recorded : Recorded b a words count) where
-  pub walks : {m o q : List ℕ} {room : Room} {joined : ℕ} {r : Walked} → LaidOut b a words count at room m → Begun b m words count at room joined o
+  pub walks : {m o q : List ℕ} {room : Room} {joined : ℕ} {r : Verdict} → LaidOut b a words count at room m → Begun b m words count at room joined o
       → Ended b o words count at room r q → Walks b a words count at r q
   walks {o = o} out begin end =
       let fits = out.laid.fits in

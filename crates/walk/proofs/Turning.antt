@@ -3,15 +3,16 @@
 use Prim.Native.Nat.{ℕ, ◌+◌, ◌≤◌, ◌<◌}
 use native.Mathlib.Omega.{arith}
 use native.Mathlib.Numerals.{add-one}
-use mathlib.Core.Path.{◌≡◌, sym, ap, ap₂, ◌∙◌, subst}
+use mathlib.Core.Path.{◌≡◌, refl, sym, ap, ap₂, ◌∙◌, subst}
 use mathlib.Core.Bool.{true, false}
 use mathlib.Core.List.{List}
 use lib.ListN.{length, get_or}
 use borrow.Author.Tests.{lt-ltb, le-ltb}
+use Rattle.std.specs.Prelude.{Some, None}
 use Rattle.lists.proofs.Sections.{length_part, get_d_part}
 use Rattle.paper.specs.Area.{K}
 use Rattle.paper.specs.Map.{out_neighbours}
-use Rattle.walk_theory.specs.Marked.{going, stopped}
+use Rattle.walk_theory.specs.Marked.{going}
 use Rattle.walk_theory.proofs.Joined.{joined-known}
 use Rattle.tables.specs.declared.Layout.{Layout}
 use Rattle.tables.specs.Usable.{Usable, entries_of}
@@ -22,7 +23,6 @@ use Rattle.walk.specs.Lows.{below_lows, Asked}
 use Rattle.walk.specs.Fitting.{Fits, Leading}
 use Rattle.walk.specs.Turns.{visit_in, Turning, Turned}
 use Rattle.walk.specs.declared.starts.Room.{Room}
-use Rattle.walk.specs.declared.turns.Step.TheVariants.{Goes, Stops}
 
 -- a node's words stand in a usable area
 pub asked : {b a : List ℕ} {at : Layout} {room : Room} → Usable b a at → Fits at room → {v : ℕ} → v < at.sizes.nodes → Asked a at room.lows v
@@ -61,7 +61,7 @@ module _ {b a : List ℕ} {at : Layout} {room : Room} {t joined counted : ℕ} (
 
     module _ {top pos : ℕ} (position : pos ≡ get_or a (at.positions + v) 0) where
       -- skipped
-      pub turn_skips : top < pos → Turned b a at room top t joined counted (Goes joined counted) a
+      pub turn_skips : top < pos → Turned b a at room top t joined counted (Some (joined, counted)) a
       unfolding visit_in
       turn_skips high =
           record { said = rw (lt-ltb top _ above); on = (ready.queued, omega arith); kept = within_none }
@@ -74,20 +74,18 @@ module _ {b a : List ℕ} {at : Layout} {room : Room} {t joined counted : ℕ} (
         not_above = omega (arith, position, ap (λ (u : ℕ). get_or a (at.positions + u) 0) read)
 
         -- counted, and no
-        pub turn-stops : below ≡ true → Turned b a at room top t joined counted (Stops (counted + 1)) a
+        pub turn-stops : below ≡ true → Turned b a at room top t joined counted None a
         unfolding visit_in
         turn-stops e =
             record {
-              said =
-                  rw (le-ltb top _ not_above, ap (below_lows a at room.lows) (sym read) ∙ sym stands ∙ e)
-                  (ap stopped (add-one counted));
+              said = rw (le-ltb top _ not_above, ap (below_lows a at room.lows) (sym read) ∙ sym stands ∙ e) refl;
               on = tt;
               kept = within_none;
             }
 
         -- counted, and its neighbours join
         pub turn_goes : below ≡ false → {grown : ℕ} {m : List ℕ} → Grown a room.queue at.sizes.nodes joined (out_neighbours b v) grown m
-            → Turned b a at room top t joined counted (Goes grown (counted + 1)) m
+            → Turned b a at room top t joined counted (Some (grown, counted + 1)) m
         unfolding visit_in
         turn_goes e g =
             record {

@@ -1,6 +1,6 @@
 -- A turn of the walk in the area, and what its cases mean.
 -- Rests on walk_theory's Marked and on Queue, Lows and Fitting.
-use Rattle.std.specs.Prelude.{ℕ, suc, ◌+◌, ◌≤◌, ◌<◌, ◌≡◌, cond, List, get_or, ltb}
+use Rattle.std.specs.Prelude.{ℕ, suc, ◌+◌, ◌≤◌, ◌<◌, ◌≡◌, cond, List, get_or, ltb, Option, Some, None}
 use Rattle.lists.proofs.Sections.{part}
 use Rattle.paper.specs.Map.{out_neighbours}
 use Rattle.walk_theory.specs.Marked.{join_all, Marked, going, stopped}
@@ -11,13 +11,11 @@ use Rattle.walk.specs.Queue.{Queued}
 use Rattle.walk.specs.Lows.{below_lows}
 use Rattle.walk.specs.Fitting.{Fits, Queueing}
 use Rattle.walk.specs.declared.starts.Room.{Room}
-use Rattle.walk.specs.declared.turns.Step.{Step}
-use Rattle.walk.specs.declared.turns.Step.TheVariants.{Goes, Stops}
 
--- the walk's state after a turn that left m
-abbrev pub turn_said : List ℕ → ℕ → Step → Marked
-turn_said m queue (Goes joined counted) = going (part m queue joined) counted
-turn_said m queue (Stops counted) = stopped counted
+-- the walk's state after a turn that left m; one that says no has counted its node
+abbrev pub turn_said : List ℕ → ℕ → ℕ → Option (ℕ × ℕ) → Marked
+turn_said m queue counted (Some (joined, more)) = going (part m queue joined) more
+turn_said m queue counted None = stopped (suc counted)
 
 -- visiting node v, by the words of the area: skipped above `top`; else counted; no if it stands below; else its neighbours join
 unfoldable pub visit_in : List ℕ → List ℕ → Layout → ℕ → ℕ → ℕ → List ℕ → ℕ → Marked
@@ -36,11 +34,11 @@ pub record Turning (b a : List ℕ) (at : Layout) (room : Room) (t joined counte
   pub few : counted ≤ t
 
 -- where the walk goes on, the queue stands in m, and at most one node more was counted
-abbrev pub GoesOn : List ℕ → ℕ → ℕ → ℕ → Step → Type 0
-GoesOn m queue n counted (Goes joined more) = Queued m queue n joined × (more ≤ counted + 1)
-GoesOn m queue n counted (Stops more) = Unit {0}
+abbrev pub GoesOn : List ℕ → ℕ → ℕ → ℕ → Option (ℕ × ℕ) → Type 0
+GoesOn m queue n counted (Some (joined, more)) = Queued m queue n joined × (more ≤ counted + 1)
+GoesOn m queue n counted None = Unit {0}
 
-pub record Turned (b a : List ℕ) (at : Layout) (room : Room) (top t joined counted : ℕ) (r : Step) (m : List ℕ) : Type 0 where
-  pub said : turn_said m room.queue r ≡ visit_in b a at room.lows top (get_or a (room.queue + t) 0) (part a room.queue joined) counted
+pub record Turned (b a : List ℕ) (at : Layout) (room : Room) (top t joined counted : ℕ) (r : Option (ℕ × ℕ)) (m : List ℕ) : Type 0 where
+  pub said : turn_said m room.queue counted r ≡ visit_in b a at room.lows top (get_or a (room.queue + t) 0) (part a room.queue joined) counted
   pub on : GoesOn m room.queue at.sizes.nodes counted r
   pub kept : Queueing at room a m

@@ -1,12 +1,13 @@
 -- What the walk asks of the area before its turns, and what it answers.
--- Rests on paper's Walk and on Queue, Lows and Fitting.
+-- Rests on paper's Walk, answers' Said, and on Queue, Lows and Fitting.
 use Rattle.std.specs.Prelude.{ℕ, ◌+◌, ◌<◌, ◌≡◌, List, [], get_or}
 use Rattle.lists.proofs.Sections.{part}
 use Rattle.paper.specs.Area.{K}
-use Rattle.paper.specs.Intervals.{Reply, Yes as yes, No as no}
 use Rattle.paper.specs.Records.{records_in}
 use Rattle.paper.specs.Walk.{start_nodes, walk}
 use Rattle.walk_theory.specs.Marked.{join_all}
+use Rattle.answers.specs.declared.Verdict.{Verdict}
+use Rattle.answers.specs.Said.{verdict_said}
 use Rattle.tables.specs.declared.Layout.{Layout}
 use Rattle.tables.specs.Usable.{Usable, Scratched}
 use Rattle.tables.specs.Recorded.{Recorded}
@@ -15,13 +16,6 @@ use Rattle.walk.specs.Queue.{Queued}
 use Rattle.walk.specs.Lows.{low_on}
 use Rattle.walk.specs.Fitting.{Fits, Queueing}
 use Rattle.walk.specs.declared.starts.Room.{Room}
-use Rattle.walk.specs.declared.turns.Walked.{Walked}
-use Rattle.walk.specs.declared.turns.Walked.TheVariants.{Yes, No}
-
--- 01's answer and count for each case
-abbrev pub walked_said : Walked → Reply × ℕ
-walked_said (Yes counted) = (yes, counted)
-walked_said (No counted) = (no, counted)
 
 -- records that pass 12, and in the walk's room the records' lowest positions by line, and the links
 pub record Laid (b a words : List ℕ) (count : ℕ) (at : Layout) (room : Room) : Type 0 where
@@ -38,11 +32,11 @@ pub record Started (b a words : List ℕ) (count : ℕ) (at : Layout) (room : Ro
   pub starts : part a room.queue joined ≡ join_all [] (start_nodes b a (records_in words count))
 
 -- the walk's answer, after turns that wrote to the queue and its marks alone
-pub record Ended (b a words : List ℕ) (count : ℕ) (at : Layout) (room : Room) (r : Walked) (m : List ℕ) : Type 0 where
-  pub said : walked_said r ≡ walk b a (records_in words count)
+pub record Ended (b a words : List ℕ) (count : ℕ) (at : Layout) (room : Room) (r : Verdict) (m : List ℕ) : Type 0 where
+  pub said : verdict_said r ≡ walk b a (records_in words count)
   pub kept : Queueing at room a m
 
 -- the walk's answer, and the tables as they stood
-pub record Walks (b a words : List ℕ) (count : ℕ) (at : Layout) (r : Walked) (m : List ℕ) : Type 0 where
-  pub said : walked_said r ≡ walk b a (records_in words count)
+pub record Walks (b a words : List ℕ) (count : ℕ) (at : Layout) (r : Verdict) (m : List ℕ) : Type 0 where
+  pub said : verdict_said r ≡ walk b a (records_in words count)
   pub kept : Scratched at a m

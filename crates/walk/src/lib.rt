@@ -12,12 +12,13 @@ ghost use Rattle.tables.specs.Usable.{Usable};
 ghost use Rattle.tables.specs.Recorded.{Recorded};
 ghost use Rattle.walk.specs.Walks.{Walks};
 
+use answers::Verdict;
 use starts::{lay, start};
 use tables::Layout;
-use turns::{Walked, turns};
+use turns::turns;
 
 // Whether no path leads from an end of a record to the start of one (the Rust's `is_convex_by_intervals`), with how many nodes were looked at.
-pub fn walk(b: &[u8], at: Layout, area: &mut [u16], records: &[u16], count: usize) -> Walked
+pub fn walk(b: &[u8], at: Layout, area: &mut [u16], records: &[u16], count: usize) -> Verdict
     requires usable { Usable b.now area.old at }
     requires recorded { Recorded b.now area.old records.now count }
     ensures { Walks b.now area.old records.now count at result area.new }

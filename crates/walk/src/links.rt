@@ -24,13 +24,12 @@ pub fn join_neighbours(
     requires v_lt_nodes { v < sizes.nodes }
     ensures { Grown area.old queue sizes.nodes joined (out_neighbours b.now v) result area.new }
 {
-    let mut i = targets_start(b, sizes, area, links, v);
+    let start = targets_start(b, sizes, area, links, v);
     let end = targets_start(b, sizes, area, links, v + 1);
     let mut grown = joined;
-    while i < end {
+    for i in start..end {
         let w = target_at(b, sizes, area, links, i);
         grown = join(area, queue, sizes.nodes, grown, w);
-        i += 1;
     }
     grown
 }

@@ -1,35 +1,22 @@
 // Translated from src/algorithms/convex/line_convex_checker.rs of portgraph (88172a3c8e, Apache-2.0, see NOTICE), and changed: the lowest
 // positions of the records stand by line, so that a node asks once for each of its lines.
-ghost use Rattle.std.specs.Prelude.{◌≡◌, ◌*◌, ◌≤◌, max, length};
+ghost use Rattle.std.specs.Prelude.{◌≡◌, ◌*◌, ◌≤◌, length};
 ghost use Rattle.paper.specs.Walk.{M};
 ghost use Rattle.paper.specs.Records.{records_in};
 ghost use Rattle.walk.specs.Lows.{Lined, Asked, lows_laid, below_lows};
 
 use tables::{Layout, entries};
-use words::field::wide;
 use words::section::word_at;
-
-fn larger(x: usize, y: usize) -> usize
-    ensures { result ≡ max x y }
-{
-    if x < y {
-        return y;
-    }
-    x
-}
 
 // The largest of the records' lowest positions (the Rust's `max_start_pos`).
 pub fn largest_lowest(records: &[u16], count: usize) -> usize
     requires { 3 * count ≤ length records.now }
     ensures { result ≡ M (records_in records.now count) }
 {
-    let mut largest = 0;
-    let mut i = 0;
-    while i < count {
-        largest = larger(largest, wide(records[3 * i + 1]));
-        i += 1;
-    }
-    largest
+    (0..count)
+        .map(|i| usize::from(records[3 * i + 1]))
+        .max()
+        .unwrap_or(0)
 }
 
 // Stores the lowest position of each record at its line's place.
@@ -37,10 +24,8 @@ pub fn lay_lows(area: &mut [u16], lows: usize, records: &[u16], count: usize)
     requires { Lined area.old lows records.now count }
     ensures { area.new ≡ lows_laid area.old lows records.now count }
 {
-    let mut i = 0;
-    while i < count {
-        area[lows + wide(records[3 * i])] = records[3 * i + 1];
-        i += 1;
+    for i in 0..count {
+        area[lows + usize::from(records[3 * i])] = records[3 * i + 1];
     }
 }
 
@@ -51,12 +36,7 @@ pub fn stands_below(area: &[u16], at: Layout, lows: usize, v: usize) -> bool
 {
     let lines = entries(area, at.begins, at.lines, v);
     let pos = word_at(area, at.positions, v);
-    let mut i = 0;
-    while i < lines.len() {
-        if pos < word_at(area, lows, wide(lines[i])) {
-            return true;
-        }
-        i += 1;
-    }
-    false
+    lines
+        .iter()
+        .any(|line| pos < word_at(area, lows, usize::from(*line)))
 }

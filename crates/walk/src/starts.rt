@@ -10,11 +10,9 @@ ghost use Rattle.walk.specs.Starts.{Starting, LaidOut, Begun};
 
 use super::lows::lay_lows;
 use super::queue::join;
-use lookup::Next;
 use neighbours::{Listing, lay_outgoing};
 use on_line::next_on;
 use tables::Layout;
-use words::field::wide;
 use words::section::fill;
 
 // Where the walk's words stand in the scratch: the queue and a mark for each node, a lowest position for each line, and the links.
@@ -52,10 +50,9 @@ fn start_on(
     requires { Starting area.old at queue line highest joined }
     ensures { Grown area.old queue at.sizes.nodes joined (listed (next_along area.old at line highest)) result area.new }
 {
-    let next = next_on(area, at, line, highest);
-    match next {
-        Next::End => joined,
-        Next::Node(v) => join(area, queue, at.sizes.nodes, joined, v),
+    match next_on(area, at, line, highest) {
+        None => joined,
+        Some(v) => join(area, queue, at.sizes.nodes, joined, v),
     }
 }
 
@@ -73,12 +70,10 @@ pub fn start(
     ensures { Begun b.now area.old records.now count at room result area.new }
 {
     let mut joined = 0;
-    let mut i = 0;
-    while i < count {
-        let line = wide(records[3 * i]);
-        let highest = wide(records[3 * i + 2]);
+    for i in 0..count {
+        let line = usize::from(records[3 * i]);
+        let highest = usize::from(records[3 * i + 2]);
         joined = start_on(area, at, room.queue, line, highest, joined);
-        i += 1;
     }
     joined
 }

@@ -6,24 +6,12 @@ ghost use Rattle.walk.specs.Walks.{Started, Ended};
 use super::links::join_neighbours;
 use super::lows::{largest_lowest, stands_below};
 use super::starts::Room;
+use answers::Verdict;
 use tables::Layout;
 use words::section::word_at;
 
-// Where a turn leads: on, with how many have joined and how many were counted, or to the answer no with its count.
-#[derive(Clone, Copy)]
-pub enum Step {
-    Goes(usize, usize),
-    Stops(usize),
-}
-
-// What the queue walk answers, with how many nodes it counted.
-#[derive(Clone, Copy)]
-pub enum Walked {
-    Yes(usize),
-    No(usize),
-}
-
-// Turn t: takes the node that joined t-th; above `top` it cannot come before any record.
+// Turn t: takes the node that joined t-th; above `top` it cannot come before any record. Answers how many have joined and how many were counted,
+// or that this node, the next to be counted, comes before a record.
 fn turn(
     b: &[u8],
     at: Layout,
@@ -33,19 +21,19 @@ fn turn(
     t: usize,
     joined: usize,
     counted: usize,
-) -> Step
+) -> Option<(usize, usize)>
     requires { Turning b.now area.old at room t joined counted }
     ensures { Turned b.now area.old at room top t joined counted result area.new }
 {
     let v = word_at(area, room.queue, t);
     if top < word_at(area, at.positions, v) {
-        return Step::Goes(joined, counted);
+        return Some((joined, counted));
     }
     if stands_below(area, at, room.lows, v) {
-        return Step::Stops(counted + 1);
+        return None;
     }
     let grown = join_neighbours(b, at.sizes, area, room.queue, room.links, v, joined);
-    Step::Goes(grown, counted + 1)
+    Some((grown, counted + 1))
 }
 
 // Takes turns until one says no or all who joined were taken.
@@ -57,7 +45,7 @@ pub fn turns(
     records: &[u16],
     count: usize,
     joined: usize,
-) -> Walked
+) -> Verdict
     requires { Started b.now area.old records.now count at room joined }
     ensures { Ended b.now area.old records.now count at room result area.new }
 {
@@ -65,18 +53,13 @@ pub fn turns(
     let mut grown = joined;
     let mut counted = 0;
     let mut t = 0;
+    // The bound moves: nodes join while they are taken, so no range counts the turns.
     while t < grown {
-        let step = turn(b, at, area, room, top, t, grown, counted);
-        match step {
-            Step::Stops(stopped) => {
-                return Walked::No(stopped);
-            }
-            Step::Goes(more, passed) => {
-                grown = more;
-                counted = passed;
-            }
-        }
+        let Some(after) = turn(b, at, area, room, top, t, grown, counted) else {
+            return Verdict::No(counted + 1);
+        };
+        (grown, counted) = after;
         t += 1;
     }
-    Walked::Yes(counted)
+    Verdict::Yes(counted)
 }

@@ -2,7 +2,7 @@
 // and convex/topo_convex_checker.rs have it, and changed: the check runs before the ports are looked at, since its refusals come first.
 #![tactic(auto)]
 
-ghost use Rattle.std.specs.Prelude.{◌≡◌, cond, ◌++◌};
+ghost use Rattle.std.specs.Prelude.{cond, ◌++◌};
 ghost use Rattle.paper.specs.Calls.{line_rules, order_rules, port_rules};
 ghost use Rattle.paper.specs.Intervals.{Reply};
 ghost use Rattle.paper.specs.OrderCheck.{order_check};
@@ -10,81 +10,62 @@ ghost use Rattle.paper.specs.Ports.{conflict};
 ghost use Rattle.paper.specs.Walk.{line_check};
 ghost use Rattle.tables.specs.Answered.{Answered};
 ghost use Rattle.tables.specs.Usable.{Usable};
-ghost use Rattle.port_conflict.specs.Said.{ports_said};
 ghost use Rattle.answers.specs.Said.{line_said, topo_said};
-ghost use Rattle.with_ports.specs.AfterPorts.{after_ports};
 
-use answers::{LineAnswer, TopoAnswer};
+use answers::Verdict;
 use line_checker::line_check::check_list;
-use port_conflict::{PortsFound, check_ports};
+use port_conflict::check_ports;
 use refusals::Refusal;
 use tables::Layout;
 use topo_checker::check_order;
-
-// The line check's answer by what the ports come to: refusal 14, no with count 0 on a conflict, else what it was.
-pub fn line_after_ports(found: PortsFound, checked: LineAnswer) -> LineAnswer
-    ensures { line_said result ≡ after_ports (ports_said found) (Reply.No, 0) (line_said checked) }
-{
-    match found {
-        PortsFound::Unknown(i) => LineAnswer::Refused(Refusal::UnknownPort(i)),
-        PortsFound::Conflict => LineAnswer::No(0),
-        PortsFound::Clear => checked,
-    }
-}
+use words::entries::Entries;
 
 // The line check with ports: the check's refusals come first, then 14; no with count 0 on a conflict; else the check.
-pub fn check_list_with_ports(
+pub fn check_list_with_ports<E: Entries + Copy>(
     b: &[u8],
     at: Layout,
     area: &mut [u16],
-    list: &[u16],
-    inputs: &[u16],
-    outputs: &[u16],
-) -> LineAnswer
+    list: E,
+    inputs: E,
+    outputs: E,
+) -> Result<Verdict, Refusal>
     requires { Usable b.now area.old at }
     ensures { Answered at area.old area.new (line_said result)
-        (line_rules b.now list.now ++ port_rules b.now inputs.now outputs.now)
-        (cond (conflict b.now inputs.now outputs.now) (Reply.No, 0)
-        (line_check b.now area.old list.now)) }
+        (line_rules b.now (E.entries list) ++ port_rules b.now (E.entries inputs) (E.entries outputs))
+        (cond (conflict b.now (E.entries inputs) (E.entries outputs)) (Reply.No, 0)
+        (line_check b.now area.old (E.entries list))) }
 {
     let checked = check_list(b, at, area, list);
-    let LineAnswer::Refused(_) = checked else {
-        let found = check_ports(b, at, area, inputs, outputs);
-        return line_after_ports(found, checked);
+    let Ok(verdict) = checked else {
+        return checked;
     };
-    checked
-}
-
-// The order check's answer by what the ports come to: refusal 14, no on a conflict, else what it was.
-pub fn order_after_ports(found: PortsFound, checked: TopoAnswer) -> TopoAnswer
-    ensures { topo_said result ≡ after_ports (ports_said found) Reply.No (topo_said checked) }
-{
-    match found {
-        PortsFound::Unknown(i) => TopoAnswer::Refused(Refusal::UnknownPort(i)),
-        PortsFound::Conflict => TopoAnswer::No,
-        PortsFound::Clear => checked,
+    if check_ports(b, at, area, inputs, outputs)? {
+        return Ok(Verdict::No(0));
     }
+    Ok(verdict)
 }
 
 // The order check with ports: its refusal comes first, then 14; no on a conflict; else the check.
-pub fn check_order_with_ports(
+pub fn check_order_with_ports<E: Entries + Copy>(
     b: &[u8],
     at: Layout,
     area: &mut [u16],
-    list: &[u16],
-    inputs: &[u16],
-    outputs: &[u16],
-) -> TopoAnswer
+    list: E,
+    inputs: E,
+    outputs: E,
+) -> Result<bool, Refusal>
     requires { Usable b.now area.old at }
     ensures { Answered at area.old area.new (topo_said result)
-        (order_rules b.now list.now ++ port_rules b.now inputs.now outputs.now)
-        (cond (conflict b.now inputs.now outputs.now) Reply.No
-        (order_check b.now area.old list.now)) }
+        (order_rules b.now (E.entries list) ++ port_rules b.now (E.entries inputs) (E.entries outputs))
+        (cond (conflict b.now (E.entries inputs) (E.entries outputs)) Reply.No
+        (order_check b.now area.old (E.entries list))) }
 {
     let checked = check_order(b, at, area, list);
-    let TopoAnswer::Refused(_) = checked else {
-        let found = check_ports(b, at, area, inputs, outputs);
-        return order_after_ports(found, checked);
+    let Ok(convex) = checked else {
+        return checked;
     };
-    checked
+    if check_ports(b, at, area, inputs, outputs)? {
+        return Ok(false);
+    }
+    Ok(convex)
 }

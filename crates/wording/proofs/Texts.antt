@@ -1,26 +1,29 @@
--- What the texts of answers rest on: a text put by another name, how much room it takes, and the part of the words in which a path's steps stand.
+-- What the texts of answers rest on: a text put by another name, the reply of the order check, and how much room the texts take.
 -- Rests on text's Printed.
-use Prim.Native.Nat.{ℕ, ◌-◌, ◌≤◌}
-use native.Mathlib.Nat.{sub-zero}
+use Prim.Native.Nat.{ℕ, ◌≤◌}
 use native.Mathlib.Omega.{arith}
-use mathlib.Core.Path.{◌≡◌, sym, ap, ◌∙◌}
+use mathlib.Core.Path.{◌≡◌, refl}
 use mathlib.Core.List.{List, [], ◌∷◌, ◌++◌}
-use lib.ListN.{length, take, length-append, length-take}
+use lib.ListN.{length, length-append}
+use Rattle.std.specs.Prelude.{Bool, true, false, Ok}
 use Rattle.lists.specs.Ascii.{ascii}
 use Rattle.paper.specs.Intervals.{Reply}
-use Rattle.paper.specs.Path.{path}
 use Rattle.paper.specs.Refusals.{Answer, refused, answered}
-use Rattle.paper.specs.Text.{newline, show_refused, show_line, show_order}
-use Rattle.text.specs.Printed.{Put}
+use Rattle.paper.specs.Text.{newline, show_reply, show_refused, show_line, show_order}
+use Rattle.text.specs.Printed.{Put, reply_of}
 use Rattle.text.proofs.Printed.{refused_short, line-short, order-short}
-use Rattle.answers.specs.declared.PathAnswer.{PathAnswer}
-use Rattle.answers.specs.declared.PathAnswer.TheVariants.{Path as path_of}
-use Rattle.answers.specs.Said.{path_said}
-use Rattle.wording.specs.Shown.{refused_line, both_checks, way_in, steps_shown}
+use Rattle.answers.specs.Said.{topo_said}
+use Rattle.wording.specs.Shown.{refused_line, both_checks}
 
 -- a text put by another name
 pub put_as : {l m us vs : List ℕ} {at e : ℕ} → us ≡ vs → Put l at vs m e → Put l at us m e
 put_as q p = rw q p
+
+-- all that is shown of the order check's answer is its reply
+pub reply-shown : (reply : Bool) → show_order (topo_said (Ok reply)) ≡ show_reply (reply_of reply)
+unfolding show_order
+reply-shown true = refl
+reply-shown false = refl
 
 -- ---- how much room the texts take
 
@@ -43,16 +46,3 @@ both_short x y =
       length-append (ascii "line " ++ show_line x) (ascii " order "),
       length-append (ascii "line ") (show_line x),
     )
-
--- ---- the part of the words in which the steps stand
-
-module _ (words : List ℕ) {a : PathAnswer} {count : ℕ} (e : a ≡ path_of count) where
-  pub count-within : steps_shown (path_said a) ≤ length words → count ≤ length words
-  count-within h = omega (arith, ap (λ (a : PathAnswer). steps_shown (path_said a)) e)
-
-  pub part-within : length (take (count - 0) words) ≤ length words
-  part-within = omega (arith, length-take (count - 0) words)
-
-  -- .. from 0 up to the count
-  pub part-is : way_in (path_said a) words ≡ answered (path (take (count - 0) words))
-  part-is = ap (λ (a : PathAnswer). way_in (path_said a) words) e ∙ ap (λ (k : ℕ). answered (path (take k words))) (sym (sub-zero count))

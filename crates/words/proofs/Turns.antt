@@ -6,21 +6,32 @@ use native.Mathlib.Numerals.{add-one}
 use native.Mathlib.Omega.{arith}
 use mathlib.Core.Path.{◌≡◌, refl, sym, ap, ◌∙◌}
 use mathlib.Core.Logic.{inl, inr}
-use mathlib.Core.List.{List, [], ◌∷◌, ◌++◌, map, flat_map, map-append}
-use lib.ListN.{length, get_or, take, set, replicate, length-replicate, length-map}
-use lib.Seq.{sets, take-suc, length-take-le}
+use mathlib.Core.List.{List, [], ◌∷◌, ◌++◌, append_assoc, map, flat_map, map-append}
+use lib.ListN.{length, get_or, take, drop, set, replicate, length-replicate, length-map}
+use lib.Seq.{sets, sets-eq, drop-drop, take-suc, length-take-le}
+use borrow.Rule.Slice.PartMut.{put_mid}
 use Rattle.lists.specs.Lists.{upto}
 use Rattle.lists.proofs.Sections.{Disjoint, Apart, part, length_part, get_or-sets-out, part-suc, sets-next}
 use Rattle.paper.specs.Map.{word}
 use Rattle.paper.specs.Words.{words_from, bytes_from, put_words}
-use Rattle.lists.proofs.Upto.{length_from, upto-suc, replicate_snoc, flat_map-append}
+use Rattle.lists.proofs.Upto.{get_or-table, length_from, upto-suc, flat_map-append}
 
 -- ---- filling and copying
 
-pub fill_again : (area₀ : List ℕ) (at i v : ℕ) {area : List ℕ} → area ≡ sets area₀ at (replicate i v)
-    → set area (at + i) v ≡ sets area₀ at (replicate (i + 1) v)
-fill_again area₀ at i v e =
-    rw (add-one, replicate_snoc) (sets-next area₀ at (replicate i v) (v ∷ []) e (length-replicate i v))
+-- a section lent as a slice of its own that comes back as vs
+pub put_back : (area : List ℕ) (at k : ℕ) (vs : List ℕ) {ys : List ℕ} → ys ≡ vs → k ≡ length vs → at + length vs ≤ length area
+    → put_mid at k area ys ≡ sets area at vs
+put_back area at k vs e long fits =
+    ap (λ (m : List ℕ). take at area ++ (m ++ drop k (drop at area))) e
+    ∙ ap (λ (m : List ℕ). take at area ++ (vs ++ m)) (drop-drop k at area ∙ ap (λ (n : ℕ). drop (at + n) area) long)
+    ∙ sym (append_assoc (take at area) vs (drop (at + length vs) area))
+    ∙ sym (sets-eq vs area at fits)
+
+pub filled : (area : List ℕ) (at n v : ℕ) {k : ℕ} {ys : List ℕ} → k ≡ n → at + n ≤ length area → ys ≡ replicate (length (part area at k)) v
+    → put_mid at k area ys ≡ sets area at (replicate n v)
+filled area at n v {k} few fits e =
+    put_back area at k (replicate n v)
+    (e ∙ ap (λ (m : ℕ). replicate m v) (length_part area at k (omega arith) ∙ few)) (omega (arith, length-replicate n v)) (omega (arith, length-replicate n v))
 
 module _ (area₀ : List ℕ) (src dst n : ℕ) (within : src + n ≤ length area₀) (apart : Disjoint src n dst n) where
   -- the word that comes next is not written over
@@ -53,6 +64,11 @@ length_first_words bytes i = length-map (upto i) (λ j. word bytes (2 * j)) ∙ 
 pub length-words_from : (bytes : List ℕ) → length (words_from bytes) ≡ length bytes / 2
 unfolding words_from
 length-words_from bytes = length_first_words bytes (length bytes / 2)
+
+-- word i of the bytes
+pub entry-word : (bytes : List ℕ) (i : ℕ) → i < length bytes / 2 → get_or (words_from bytes) i 0 ≡ word bytes (2 * i)
+unfolding words_from
+entry-word bytes i h = get_or-table (λ j. word bytes (2 * j)) (length bytes / 2) i 0 h
 
 first_words_snoc : (bytes : List ℕ) (i : ℕ) → first_words bytes (suc i) ≡ first_words bytes i ++ (word bytes (2 * i) ∷ [])
 first_words_snoc bytes i = ap (map (λ j. word bytes (2 * j))) (upto-suc i) ∙ map-append (λ j. word bytes (2 * j)) (upto i) (i ∷ [])

@@ -10,11 +10,8 @@ pub fn words_from(bytes: &[u8], words: &mut [u16])
     requires { length bytes.now / 2 ≤ length words.old }
     ensures { words.new ≡ sets words.old 0 (words_from bytes.now) }
 {
-    let count = bytes.len() / 2;
-    let mut i = 0;
-    while i < count {
+    for i in 0..bytes.len() / 2 {
         words[i] = field_at(bytes, 2 * i);
-        i += 1;
     }
 }
 
@@ -23,9 +20,7 @@ pub fn put_words(words: &[u16], bytes: &mut [u8])
     requires { 2 * length words.now ≤ length bytes.old }
     ensures { bytes.new ≡ put_words bytes.old words.now }
 {
-    let mut i = 0;
-    while i < words.len() {
-        put_field(bytes, 2 * i, words[i]);
-        i += 1;
+    for (i, word) in words.iter().enumerate() {
+        put_field(bytes, 2 * i, *word);
     }
 }

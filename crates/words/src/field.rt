@@ -3,26 +3,13 @@ ghost use Rattle.std.specs.Prelude.{◌≡◌, [], ◌∷◌, ◌+◌, ◌/◌, 
 ghost use Rattle.std.proofs.lemmas.List.Edits.{sets};
 ghost use Rattle.paper.specs.Map.{word};
 
-// A word as an index.
-pub fn wide(x: u16) -> usize
-    ensures { result ≡ x }
-{
-    x as usize
-}
-
-fn wide_byte(x: u8) -> u16
-    ensures { result ≡ x }
-{
-    x as u16
-}
-
 // The field at a place of the bytes.
 pub fn field_at(b: &[u8], at: usize) -> u16
     requires { at + 1 < length b.now }
     ensures { result ≡ word b.now at }
 {
-    let low = wide_byte(b[at]);
-    let high = wide_byte(b[at + 1]);
+    let low = u16::from(b[at]);
+    let high = u16::from(b[at + 1]);
     low + 256 * high
 }
 

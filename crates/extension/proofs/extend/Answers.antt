@@ -11,14 +11,10 @@ copy_words-requires c = (omega (arith, c.requires.recorded.fits), omega (arith, 
 pub entries-lines-requires : goal.entries-lines-requires
 entries-lines-requires c = lines-span c.requires.usable c.args.v c.requires.v_lt_nodes.0
 
-pub extend_lines-requires : goal.extend_lines-requires
-extend_lines-requires c = record {
-  usable = c.requires.usable;
-  slots_fit = c.requires.slots_fit;
-  lines_ready = lines-ready c.requires.usable c.requires.recorded c.requires.slotted c.copy_words.ensures c.requires.v_lt_nodes.0 c.entries-lines.ensures c.word_at-pos.ensures
-      (omega (arith, c.type_inv.area (c.args.at.positions + c.args.v), c.word_at-pos.ensures))
-      c.requires.v_lt_nodes.1;
-}
+pub extend_lines-requires-clause-lines_ready : goal.extend_lines-requires-clause-lines_ready
+extend_lines-requires-clause-lines_ready c = lines-ready c.requires.usable c.requires.recorded c.requires.slotted c.copy_words.ensures c.requires.v_lt_nodes.0 c.entries-lines.ensures c.word_at-pos.ensures
+    (omega (arith, c.type_inv.area (c.args.at.positions + c.args.v), c.word_at-pos.ensures))
+    c.requires.v_lt_nodes.1
 
 pub returns : goal.returns
 returns c = extended c.requires.usable c.requires.recorded c.requires.slotted c.copy_words.ensures c.requires.v_lt_nodes.0 c.entries-lines.ensures c.word_at-pos.ensures c.extend_lines.ensures

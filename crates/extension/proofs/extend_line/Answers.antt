@@ -1,26 +1,20 @@
 -- `extension::extend_line` meets its contract: a line without a mark gets a new record, else its own grows or stops it.
 -- Rests on Extending.
 use Rattle.std.proofs.Common.{ap, arith, not}
-use Rattle.tables.proofs.Words.{count-few, nodes-span}
+use Rattle.tables.proofs.Words.{nodes-span}
 use Rattle.extension.proofs.Extending.{few-made, room-there, new_record, can_grow, grown_record, stopped_record}
 use Rattle.extension.proofs.extend_line.Goals as goal
 
 -- ---- the line's mark and slot stand in the area
-pub word_at-requires : goal.word_at-requires
-word_at-requires c = omega (arith, c.requires.slots_fit, c.requires.line_ready.known, count-few c.requires.usable, c.requires.usable.placed.after-scratch, c.requires.usable.room)
-
 -- ---- no mark
-pub put_record-requires : goal.put_record-requires
-put_record-requires c = record { i_in_bounds = room-there c.requires.usable c.requires.line_ready c.word_at.ensures c.if-word_at-eq0.true; line_bound = (omega (arith, c.requires.line_ready.known, count-few c.requires.usable, c.requires.usable.read.few-nodes, c.requires.usable.read.few-links), c.requires.line_ready.word, c.requires.line_ready.word) }
+pub put_record-requires-clause-i_in_bounds : goal.put_record-requires-clause-i_in_bounds
+put_record-requires-clause-i_in_bounds c = room-there c.requires.usable c.requires.line_ready c.word_at.ensures c.if-word_at-eq0.true
 
 pub overflow_add-result : goal.overflow_add-result
 overflow_add-result c = omega (arith, few-made c.requires.usable c.requires.line_ready.own, c.requires.usable.read.few-nodes, c.requires.usable.read.few-links)
 
 pub returns-then-word_at-eq0 : goal.returns-then-word_at-eq0
 returns-then-word_at-eq0 c = new_record c.requires.usable c.requires.line_ready c.word_at.ensures c.if-word_at-eq0.true c.put_record.ensures
-
-pub word_at-slot-requires : goal.word_at-slot-requires
-word_at-slot-requires c = omega (arith, c.requires.slots_fit, c.requires.line_ready.known, count-few c.requires.usable, c.requires.usable.placed.after-scratch, c.requires.usable.room)
 
 -- ---- a mark: the line's nodes are handed on
 pub entries-nodes-requires : goal.entries-nodes-requires

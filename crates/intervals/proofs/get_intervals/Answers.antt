@@ -9,9 +9,6 @@ use Rattle.intervals.proofs.get_intervals.Goals as goal
 pub lay_map-room-requires : goal.lay_map-room-requires
 lay_map-room-requires c = omega (arith, W-sum c.args.b.now, c.requires.usable.read, c.requires.usable.placed.whole, c.requires.usable.placed.after-scratch)
 
-pub fill-requires : goal.fill-requires
-fill-requires c = omega (arith, c.lay_map-room.ensures, c.requires.usable.placed.after-scratch, c.requires.usable.room)
-
 pub add_nodes-made-requires : goal.add_nodes-made-requires
 add_nodes-made-requires c = can_add-nodes c.requires.usable c.requires.listed c.lay_map-room.ensures c.fill.ensures c.args.records.now c.requires.links_in_bounds
 

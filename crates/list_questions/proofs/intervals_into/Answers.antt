@@ -8,4 +8,4 @@ use Rattle.list_questions.proofs.intervals_into.Goals as goal
 
 pub returns : goal.returns
 unfolding get_intervals_from_nodes call_into
-returns c = record { value = asked_with c.args.words.now written_words {at = c.args.at} {at' = c.args.at} c.get_intervals_from_nodes-answer.ensures c.is_intervals_answer.ensures refl; cleared = ap (λ (l : LeftWith Written). l.area) c.get_intervals_from_nodes-answer.ensures }
+returns c = record { value = asked_with c.args.words.now written_words {at = c.args.at} {at' = c.args.at} c.get_intervals_from_nodes-answer.ensures c.is_written_answer.ensures refl; cleared = ap (λ (l : LeftWith Written). l.area) c.get_intervals_from_nodes-answer.ensures }

@@ -15,20 +15,20 @@ unfolding same_line_check
 returns-in_default c = record { value = no_line c.args.words.now (behind c.args.words.now 1) _ (omega (arith, lacks c.args.words.now 1 c.list_at-list.ensures c.in_default.is)); cleared = not-true }
 
 pub offset_bounds-words-from : goal.offset_bounds-words-from
-offset_bounds-words-from c = let part = within _ _ c.list_at-list.ensures c.in-Words.is in search rules
+offset_bounds-words-from c = let part = within _ _ c.list_at-list.ensures c.in-Some.is in search rules
 
 pub slice_bounds-is_node_convex-count : goal.slice_bounds-is_node_convex-count
-slice_bounds-is_node_convex-count c = let part = within _ _ c.list_at-list.ensures c.in-Words.is in search rules
+slice_bounds-is_node_convex-count c = let part = within _ _ c.list_at-list.ensures c.in-Some.is in search rules
 
 pub slice_bounds-is_node_convex-start : goal.slice_bounds-is_node_convex-start
-slice_bounds-is_node_convex-start c = let part = within _ _ c.list_at-list.ensures c.in-Words.is in search rules
+slice_bounds-is_node_convex-start c = let part = within _ _ c.list_at-list.ensures c.in-Some.is in search rules
 
 pub slice_bounds-is_node_convex-end : goal.slice_bounds-is_node_convex-end
-slice_bounds-is_node_convex-end c = let part = within _ _ c.list_at-list.ensures c.in-Words.is in search rules
+slice_bounds-is_node_convex-end c = let part = within _ _ c.list_at-list.ensures c.in-Some.is in search rules
 
 pub is_line_answer-requires : goal.is_line_answer-requires
-is_line_answer-requires c = let part = within _ _ c.list_at-list.ensures c.in-Words.is in search rules
+is_line_answer-requires c = let part = within _ _ c.list_at-list.ensures c.in-Some.is in search rules
 
 pub returns : goal.returns
 unfolding same_line_check is_node_convex call
-returns c = record { value = one_list c.args.words.now 1 c.list_at-list.ensures c.in-Words.is line_words (is_node_convex c.args.map.now c.args.area.now) c.is_node_convex-answer.ensures.area_after c.is_line_answer.ensures; cleared = (λ _. ap (λ (l : Left (Reply × ℕ)). l.area) c.is_node_convex-answer.ensures.area_after) }
+returns c = record { value = one_list c.args.words.now 1 c.list_at-list.ensures c.in-Some.is line_words (is_node_convex c.args.map.now c.args.area.now) c.is_node_convex-answer.ensures.area_after c.is_line_answer.ensures; cleared = (λ _. ap (λ (l : Left (Reply × ℕ)). l.area) c.is_node_convex-answer.ensures.area_after) }

@@ -13,7 +13,7 @@ returns-then-words-lt2 c = record { value = no_lines c.args.words.now 2 _ _ (ome
 pub returns : goal.returns
 unfolding lines_at_port call
 returns c = record {
-  value = port-lines c.args.words.now c.args.map.now c.args.area.now c.wide-port.ensures c.lines_at_port-answer.ensures c.view_lines_at_port-view.ensures.result_value
+  value = port-lines c.args.words.now c.args.map.now c.args.area.now c.from-port.ensures c.lines_at_port-answer.ensures c.view_lines_at_port-view.ensures.result_value
       c.is_port_answer.ensures;
   cleared = (λ _. ap (λ (l : Left (ℕ × ℕ)). l.area) c.lines_at_port-answer.ensures);
 }

@@ -8,6 +8,6 @@ use Rattle.paper.specs.Map.{first_port}
 use Rattle.neighbours.proofs.first_ports_at.Goals as goal
 
 pub returns : goal.returns
-returns c = let table = map (first_port c.args.b.now) (upto (c.args.n + 1)) in
-    lent c.args.area.now c.args.firsts (c.args.firsts + (c.args.n + 1) - c.args.firsts) table (length-table (first_port c.args.b.now) (c.args.n + 1) ∙ omega arith)
+returns c = let table = map (first_port c.args.b.now) (upto (c.args.sizes.nodes + 1)) in
+    lent c.args.area.now c.args.firsts (c.args.firsts + (c.args.sizes.nodes + 1) - c.args.firsts) table (length-table (first_port c.args.b.now) (c.args.sizes.nodes + 1) ∙ omega arith)
     (omega (arith, c.requires.n_in_bounds)) c.first_ports.ensures

@@ -9,8 +9,7 @@ pub first_ports_at-requires : goal.first_ports_at-requires
 first_ports_at-requires c = record { numbered = numbered c.requires.read; n_in_bounds = firsts-fit c.requires }
 
 pub links_by_output-requires : goal.links_by_output-requires
-links_by_output-requires c = roomy-out c.requires refl refl refl c.first_ports_at.ensures
+links_by_output-requires c = roomy-out c.requires refl refl refl refl c.first_ports_at.ensures
 
 pub returns : goal.returns
-returns c = outgoing-laid c.requires refl refl refl c.first_ports_at.ensures refl
-    c.links_by_output.ensures
+returns c = outgoing-laid c.requires refl refl refl refl c.first_ports_at.ensures c.links_by_output.ensures

@@ -11,4 +11,4 @@ pub clear_scratch-requires : goal.clear_scratch-requires
 clear_scratch-requires c = record { ends = omega (arith, c.requires.placed); room = search rules }
 
 pub returns : goal.returns
-returns c = room c.requires _ (search rules) c.test_tables-found.ensures c.clear_scratch.ensures
+returns c = room c.requires _ (search rules) c.test_tables-tested.ensures c.clear_scratch.ensures

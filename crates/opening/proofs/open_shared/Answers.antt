@@ -1,26 +1,22 @@
 -- `opening::open_shared` meets its contract: refusal 1 or 2, else what `open_placed_shared` says.
--- Rests on Opening, stepmap's Answers and refusals' Rulings.
-use Rattle.std.proofs.Common.{ap, sym, ◌∙◌}
-use Rattle.refusals.proofs.Rulings.{ruled_by_lem}
-use Rattle.stepmap.specs.Said.{map_said}
-use Rattle.stepmap.proofs.Answers.{map_refused, read_well}
+-- Rests on Opening, stepmap's Answers and refusals' Answers.
+use Rattle.std.proofs.lemmas.Result.{err_from_is_err_and}
+use Rattle.refusals.proofs.Answers.{rule_said, value_said}
+use Rattle.stepmap.proofs.Answers.{read_well}
 use Rattle.tables.proofs.Placed.{few}
-use Rattle.toposort.proofs.Sizing.{passes}
-use Rattle.opening.proofs.Opening.{unread_said, laid, placed-said}
+use Rattle.opening.proofs.Opening.{laid, unread_said, placed-said}
 use Rattle.opening.proofs.open_shared.Goals as goal
 
-pub map_refusal-requires : goal.map_refusal-requires
-map_refusal-requires c = map_refused c.read_map-read.result c.in_default.not-Sized
-
-pub returns-in_default : goal.returns-in_default
-returns-in_default c = unread_said _ _ c.map_refusal.result (ruled_by_lem (map_said c.read_map-read.result) c.map_refusal.ensures _ _ c.read_map-read.ensures)
+pub returns-in_err-sizes : goal.returns-in_err-sizes
+returns-in_err-sizes c = let p = err_from_is_err_and c.from_residual.result c.from_residual.ensures.1 in
+    rw (p.1, p.2) (unread_said _ _ _ (rule_said _ _ c.in_err-sizes.ensures))
 
 pub lay_out-at-requires : goal.lay_out-at-requires
-lay_out-at-requires c = few (read_well _ _ _ _ (ap map_said (sym c.in-Sized.is) ∙ c.read_map-read.ensures))
+lay_out-at-requires c = few (read_well _ _ c.in_ok-sizes.ensures)
 
 pub open_placed_shared-requires : goal.open_placed_shared-requires
-open_placed_shared-requires c = laid (read_well _ _ _ _ (ap map_said (sym c.in-Sized.is) ∙ c.read_map-read.ensures)) c.lay_out-at.ensures
+open_placed_shared-requires c = laid (read_well _ _ c.in_ok-sizes.ensures) c.lay_out-at.ensures
 
 pub returns : goal.returns
-returns c = let said = ap map_said (sym c.in-Sized.is) ∙ c.read_map-read.ensures in
-    placed-said _ _ (laid (read_well _ _ _ _ said) c.lay_out-at.ensures) (passes _ said) c.open_placed_shared.ensures
+returns c =
+    placed-said _ _ (laid (read_well _ _ c.in_ok-sizes.ensures) c.lay_out-at.ensures) (value_said c.in_ok-sizes.ensures).0 c.open_placed_shared.ensures

@@ -7,9 +7,6 @@ use Rattle.port_lines.proofs.view_start.Goals as goal
 pub word_at-requires : goal.word_at-requires
 word_at-requires c = omega (arith, c.requires.usable.placed, c.requires.usable.room, node-known c.requires.usable c.requires.port_lt_ports c.port_node-v.ensures)
 
-pub overflow_add-result : goal.overflow_add-result
-overflow_add-result c = omega (arith, start-inside c.requires.usable c.requires.port_lt_ports c.port_node-v.ensures c.word_at.ensures c.first_line-first.ensures)
-
 pub overflow_add-result-2 : goal.overflow_add-result-2
 overflow_add-result-2 c = omega (arith, start-inside c.requires.usable c.requires.port_lt_ports c.port_node-v.ensures c.word_at.ensures c.first_line-first.ensures)
 

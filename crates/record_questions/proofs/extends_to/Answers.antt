@@ -8,4 +8,4 @@ use Rattle.record_questions.proofs.extends_to.Goals as goal
 
 pub returns : goal.returns
 unfolding try_extend_intervals call_into
-returns c = record { value = asked_with c.args.words.now written_words {at = c.args.at} {at' = c.args.at} c.try_extend_intervals-answer.ensures c.is_extend_answer.ensures refl; cleared = ap (λ (l : LeftWith Written). l.area) c.try_extend_intervals-answer.ensures }
+returns c = record { value = asked_with c.args.words.now written_words {at = c.args.at} {at' = c.args.at} c.try_extend_intervals-answer.ensures c.is_written_answer.ensures refl; cleared = ap (λ (l : LeftWith Written). l.area) c.try_extend_intervals-answer.ensures }

@@ -15,21 +15,21 @@ unfolding same_prepared
 returns-then-words-lt3 c = record { value = no_count c.args.words.now (answer_at c.args.words.now) _ (omega arith); cleared = not-true }
 
 pub overflow_mul-at : goal.overflow_mul-at
-overflow_mul-at c = omega (arith, c.wide.ensures, c.type_inv.words 1)
+overflow_mul-at c = omega (arith, c.from.ensures, c.type_inv.words 1)
 
 pub overflow_add-at : goal.overflow_add-at
-overflow_add-at c = omega (arith, c.wide.ensures, c.type_inv.words 1)
+overflow_add-at c = omega (arith, c.from.ensures, c.type_inv.words 1)
 
 pub overflow_mul-at-2 : goal.overflow_mul-at-2
-overflow_mul-at-2 c = omega (arith, c.wide-2.ensures, c.type_inv.words 2)
+overflow_mul-at-2 c = omega (arith, c.from-2.ensures, c.type_inv.words 2)
 
 pub overflow_add-at-2 : goal.overflow_add-at-2
-overflow_add-at-2 c = omega (arith, c.wide-2.ensures, c.type_inv.words 2, c.wide.ensures, c.shared_slice_known-3-1.given 1)
+overflow_add-at-2 c = omega (arith, c.from-2.ensures, c.type_inv.words 2, c.from.ensures, c.shared_slice_known-3-1.given 1)
 
 pub returns-then-at-words : goal.returns-then-at-words
 unfolding same_prepared
-returns-then-at-words c = record { value = no_count c.args.words.now (answer_at c.args.words.now) _ (omega (arith, c.wide.ensures, c.wide-2.ensures)); cleared = not-true }
+returns-then-at-words c = record { value = no_count c.args.words.now (answer_at c.args.words.now) _ (omega (arith, c.from.ensures, c.from-2.ensures)); cleared = not-true }
 
 pub returns : goal.returns
 unfolding same_prepared
-returns c = let place : 3 + 2 * c.wide.result + 4 * c.wide-2.result ≡ answer_at c.args.words.now = omega (arith, c.wide.ensures, c.wide-2.ensures) in record { value = asked c.args.words.now count_words c.prepare-answer.ensures c.is_prepared.ensures place; cleared = (λ _. ap (λ l. l.area) c.prepare-answer.ensures) }
+returns c = let place : 3 + 2 * c.from.result + 4 * c.from-2.result ≡ answer_at c.args.words.now = omega (arith, c.from.ensures, c.from-2.ensures) in record { value = asked c.args.words.now count_words c.prepare-answer.ensures c.is_prepared.ensures place; cleared = (λ _. ap (λ l. l.area) c.prepare-answer.ensures) }

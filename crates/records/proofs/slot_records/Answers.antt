@@ -7,22 +7,22 @@ use Rattle.records.proofs.Slotting.{cleared-kept, none_passed, passed-next, bad_
 use Rattle.records.proofs.slot_records.Goals as goal
 
 pub loop-i-init : goal.loop-i-init
-loop-i-init c = (omega arith, within_none, still_usable c.requires.usable (cleared-kept c.requires.usable c.requires.slots_fit c.fill.ensures), none_passed c.requires.usable c.requires.slots_fit c.fill.ensures c.args.words.now)
-
-pub check_record-requires : goal.check_record-requires
-check_record-requires c = record { usable = c.loop-i.invariant.2; slots_fit = c.requires.slots_fit; passed = c.loop-i.invariant.3; i_in_bounds = omega (arith, c.loop-i-test.true, c.requires.count_in_bounds) }
+loop-i-init c = record {
+  kept = within_none;
+  usable = still_usable c.requires.usable (cleared-kept c.requires.usable c.requires.slots_fit c.fill.ensures);
+  passed = none_passed c.requires.usable c.requires.slots_fit c.fill.ensures c.args.words.now;
+}
 
 pub returns-then-not-check_record : goal.returns-then-not-check_record
-returns-then-not-check_record c = bad_found c.requires.usable (within_both (cleared-kept c.requires.usable c.requires.slots_fit c.fill.ensures) c.loop-i.invariant.1) c.loop-i.invariant.3 c.loop-i-test.true
+returns-then-not-check_record c = bad_found c.requires.usable (within_both (cleared-kept c.requires.usable c.requires.slots_fit c.fill.ensures) c.loop-i.invariant.kept) c.loop-i.invariant.passed c.loop-i-test.true
     c.check_record.ensures (ap not c.if-not-check_record.true)
 
 pub loop-i-preserved : goal.loop-i-preserved
-loop-i-preserved c = (
-  omega (arith, c.loop-i-test.true),
-  within_both c.loop-i.invariant.1 c.check_record.ensures.kept,
-  still_usable c.loop-i.invariant.2 c.check_record.ensures.kept,
-  passed-next c.loop-i.invariant.2 c.loop-i.invariant.3 c.check_record.ensures (ap not c.if-not-check_record.false),
-)
+loop-i-preserved c = record {
+  kept = within_both c.loop-i.invariant.kept c.check_record.ensures.kept;
+  usable = still_usable c.loop-i.invariant.usable c.check_record.ensures.kept;
+  passed = passed-next c.loop-i.invariant.usable c.loop-i.invariant.passed c.check_record.ensures (ap not c.if-not-check_record.false);
+}
 
 pub returns : goal.returns
-returns c = all-good c.requires.usable (within_both (cleared-kept c.requires.usable c.requires.slots_fit c.fill.ensures) c.loop-i.invariant.1) c.loop-i.invariant.3 c.loop-i.invariant.0 c.loop-i-test.false
+returns c = all-good c.requires.usable (within_both (cleared-kept c.requires.usable c.requires.slots_fit c.fill.ensures) c.loop-i.invariant.kept) c.loop-i.invariant.passed (omega arith) c.loop-i-test.false

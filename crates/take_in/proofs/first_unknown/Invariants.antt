@@ -1,9 +1,6 @@
-use Rattle.std.proofs.Common.{get_or, leb, length, ◌-◌}
+use Rattle.std.proofs.Common.{get_or, leb}
 use Rattle.take_in.proofs.Search.{Clean}
 use Rattle.take_in.proofs.first_unknown.Given as goal
 
 abbrev pub invariant-loop-i : goal.invariant-loop-i
-invariant-loop-i l = Clean (λ j. leb l.n (get_or l.list j 0)) (length l.list) l.i
-
-abbrev pub decreases-loop-i : goal.decreases-loop-i
-decreases-loop-i l = length l.list - l.i
+invariant-loop-i g l = Clean (λ j. leb l.n (get_or (g.E.Entries.entries l.list) j 0)) l.i

@@ -1,15 +1,13 @@
 -- `telling::tell_port` meets its contract: the first place and the count, or a refusal.
--- Rests on Told.
-use Rattle.std.proofs.Common.{[], ap, ap₂, refl, ℕ, ◌∷◌}
-use Rattle.paper.specs.Exports.{in_pair}
-use Rattle.answers.specs.Said.{port_lines_said}
-use Rattle.telling.proofs.Told.{refusal_told, answer-told}
+-- Rests on paper's Exports.
+use Rattle.std.proofs.Common.{refl}
+use Rattle.paper.specs.Exports.{in_pair, tell}
 use Rattle.telling.proofs.tell_port.Goals as goal
 
-pub returns-in-At : goal.returns-in-At
-unfolding in_pair
-returns-in-At c = answer-told in_pair _ (ap port_lines_said c.in-At.is) refl
-    (ap₂ (λ (m n : ℕ). m ∷ n ∷ []) c.put.ensures c.put-in-At.ensures)
+pub returns-in-Ok : goal.returns-in-Ok
+unfolding tell in_pair
+returns-in-Ok c = rw c.in-Ok.is refl
 
-pub returns-in-Refused : goal.returns-in-Refused
-returns-in-Refused c = refusal_told in_pair _ _ (ap port_lines_said c.in-Refused.is) c.tell_refusal.ensures
+pub returns-in-Err : goal.returns-in-Err
+unfolding tell
+returns-in-Err c = let told = c.tell_refusal.ensures in rw (c.in-Err.is, told.0, told.1, told.2) refl

@@ -1,5 +1,7 @@
 -- `toposort::toposort` meets its contract: the counters start the queue, the turns empty it, and what is left names the refusal.
 -- Rests on Ordered.
+use Rattle.std.proofs.Common.{ap}
+use Rattle.paper.specs.Refusals.{refuse}
 use Rattle.toposort.proofs.Ordered.{counters, standing₀, laid₃, room₃, said}
 use Rattle.toposort.proofs.toposort.Goals as goal
 
@@ -16,8 +18,16 @@ pub lowest_left-requires : goal.lowest_left-requires
 lowest_left-requires c = room₃ c.requires c.count_inputs.ensures c.free_nodes-joined.ensures.0 c.free_nodes-joined.ensures.1
     c.all_turns.ensures.1
 
-pub returns : goal.returns
-returns c = (
-  said c.requires c.count_inputs.ensures c.free_nodes-joined.ensures.0 c.free_nodes-joined.ensures.1 c.all_turns.ensures.1 c.lowest_left.ensures,
+pub returns-in-None : goal.returns-in-None
+unfolding refuse
+returns-in-None c = (
+  said c.requires c.count_inputs.ensures c.free_nodes-joined.ensures.0 c.free_nodes-joined.ensures.1 c.all_turns.ensures.1 (ap (refuse 6) c.in-None.ensures),
+  laid₃ c.requires c.count_inputs.ensures c.free_nodes-joined.ensures.0 c.free_nodes-joined.ensures.1 c.all_turns.ensures.1,
+)
+
+pub returns-in-Some : goal.returns-in-Some
+unfolding refuse
+returns-in-Some c = (
+  said c.requires c.count_inputs.ensures c.free_nodes-joined.ensures.0 c.free_nodes-joined.ensures.1 c.all_turns.ensures.1 (ap (refuse 6) c.in-Some.ensures),
   laid₃ c.requires c.count_inputs.ensures c.free_nodes-joined.ensures.0 c.free_nodes-joined.ensures.1 c.all_turns.ensures.1,
 )

@@ -1,18 +1,14 @@
--- `acceptance::entries::entries_below` meets its contract: the entries passed are below the bound, and the first that is not decides.
--- Rests on Starts and lists.AllAny.
-use Rattle.std.proofs.Common.{arith, below_more, below_none, get_or, ltb, ◌+◌}
-use Rattle.lists.proofs.AllAny.{all_through}
-use Rattle.acceptance.proofs.Starts.{entry-high, entry-low}
+-- `acceptance::entries::entries_below` meets its contract: the entries, lent as a list of their own, are tested one by one.
+-- Rests on Starts.
+use Rattle.std.proofs.Common.{arith, ltb, rules, tests, ◌+◌, ◌-◌}
+use Rattle.std.proofs.lemmas.Iterator.{YieldsList-from_slice}
+use Rattle.std.proofs.lemmas.Iterator.Search.{all_from_yields_List}
+use Rattle.lists.proofs.Sections.{part}
+use Rattle.acceptance.proofs.Starts.{entries-lent}
 use Rattle.acceptance.proofs.entries.entries_below.Goals as goal
 
-pub loop-i-init : goal.loop-i-init
-loop-i-init c = (omega arith, below_none _)
-
-pub returns-then-wide-bound : goal.returns-then-wide-bound
-returns-then-wide-bound c = entry-high c.args.area.now _ _ _ c.loop-i-test.true c.wide.ensures (omega (arith, c.if-wide-bound.true))
-
-pub loop-i-preserved : goal.loop-i-preserved
-loop-i-preserved c = (omega arith, below_more _ _ c.loop-i.invariant.1 (entry-low c.args.area.now _ c.args.count _ c.loop-i.i c.wide.ensures (omega (arith, c.if-wide-bound.false))))
-
 pub returns : goal.returns
-returns c = all_through (λ j. ltb (get_or c.args.area.now (c.args.at + j) 0) c.args.bound) c.loop-i-test.false c.loop-i.invariant.1
+returns c =
+    entries-lent c.args.area.now c.args.at c.args.count c.args.bound {k = c.args.at + c.args.count - c.args.at} (omega arith) c.requires
+    (all_from_yields_List (λ x. ltb x c.args.bound) _ _ c.all.result c.all.ensures.ran
+    (YieldsList-from_slice (part c.args.area.now c.args.at (c.args.at + c.args.count - c.args.at)) cc) (λ x b q k. search (rules, tests)))

@@ -1,8 +1,5 @@
-use Rattle.std.proofs.Common.{get_or, ltb, suc, true, ℕ, ◌+◌, ◌-◌, ◌<◌, ◌≡◌, ◌≤◌}
+use Rattle.std.proofs.Common.{get_or, ltb, suc, true, ℕ, ◌+◌, ◌<◌, ◌≡◌}
 use Rattle.acceptance.proofs.entries.starts_well.Given as goal
 
 abbrev pub invariant-loop-i : goal.invariant-loop-i
-invariant-loop-i l = (l.i ≤ l.count) × ((j : ℕ) → j < l.i → ltb (get_or l.area (l.at + j) 0) (get_or l.area (l.at + suc j) 0) ≡ true)
-
-abbrev pub decreases-loop-i : goal.decreases-loop-i
-decreases-loop-i l = l.count - l.i
+invariant-loop-i l = (j : ℕ) → j < l.i → ltb (get_or l.area (l.at + j) 0) (get_or l.area (l.at + suc j) 0) ≡ true

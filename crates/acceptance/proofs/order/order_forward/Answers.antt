@@ -8,7 +8,7 @@ pub returns-then-not-each_once : goal.returns-then-not-each_once
 returns-then-not-each_once c = not_once c.requires c.each_once.ensures.says (ap not c.if-not-each_once.true)
 
 pub links_forward-requires : goal.links_forward-requires
-links_forward-requires c = linking c.requires (omega (arith, c.each_once.auto.places, c.place_room-places.ensures))
+links_forward-requires c = linking c.requires (omega (arith, c.each_once.auto.places))
 
 pub returns : goal.returns
 returns c = ordered c.requires c.each_once.ensures.says (ap not c.if-not-each_once.false) c.each_once.ensures.kept_upto c.links_forward.ensures

@@ -1,15 +1,8 @@
--- `agreement::listed::put_in` meets its contract: after i turns the first i words are put.
--- Rests on Laying.
-use Rattle.std.proofs.Common.{arith, length-set, ◌+◌, ◌∙◌}
-use Rattle.agreement.proofs.Laying.{put_next, all-put}
+-- `agreement::listed::put_in` meets its contract: the words' section of the room, lent and copied over, comes back as so many stores.
+-- Rests on words.
+use Rattle.std.proofs.Common.{arith}
+use Rattle.words.proofs.Turns.{put_back}
 use Rattle.agreement.proofs.listed.put_in.Goals as goal
 
-pub loop-i-preserved : goal.loop-i-preserved
-loop-i-preserved c = (
-  omega (arith, c.loop-i-test.true),
-  length-set c.loop-i.room (c.args.at + c.loop-i.i) _ ∙ c.loop-i.invariant.1,
-  put_next c.args.room.now c.args.words.now c.args.at c.loop-i-test.true c.loop-i.invariant.2,
-)
-
 pub returns : goal.returns
-returns c = all-put c.args.room.now c.args.words.now c.args.at c.loop-i-test.false c.loop-i.invariant.2
+returns c = put_back _ _ _ _ c.copy_from_slice.ensures.after (omega arith) c.requires

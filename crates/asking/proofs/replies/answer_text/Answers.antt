@@ -5,8 +5,8 @@ use Rattle.asking.proofs.replies.answer_text.Goals as goal
 
 pub returns-in_default : goal.returns-in_default
 returns-in_default c =
-    bad_text (says_of c.args.program) c.args.i c.requires.standing (read_bad c.read_list-read.ensures c.in_default.is) c.put_refused_line.ensures
+    bad_text (says_of c.args.program) c.args.i c.requires.standing (read_bad c.read_list.ensures c.in_default.is) c.put_refused_line.ensures
     (omega (arith, c.requires.in_bounds))
 
 pub returns : goal.returns
-returns c = good_text (says_of c.args.program) c.args.i (read-good c.read_list-read.ensures c.in-Numbers.is) c.answer_list.ensures
+returns c = good_text (says_of c.args.program) c.args.i (read-good c.read_list.ensures c.in-Some.is) c.answer_list.ensures

@@ -5,7 +5,7 @@ use Rattle.back_path.proofs.Written.{before-there, before-known, before_way, fir
 use Rattle.back_path.proofs.writing.+write_path.Goals as goal
 
 pub returns-then-d-eq0 : goal.returns-then-d-eq0
-returns-then-d-eq0 t c = first-written _ _ _ _ _ _ c.if-d-eq0.true
+returns-then-d-eq0 t c = first-written _ _ _ _ _ c.if-d-eq0.true
 
 pub step_before-before-requires : goal.step_before-before-requires
 step_before-before-requires t c =
@@ -24,4 +24,4 @@ write_path-requires t c = (
 )
 
 pub returns : goal.returns
-returns t c = next-written _ _ _ _ _ _ c.if-d-eq0.false c.step_before-before.ensures c.write_path.ensures
+returns t c = next-written _ _ _ _ _ c.if-d-eq0.false c.step_before-before.ensures c.write_path.ensures

@@ -1,24 +1,21 @@
 -- `byte_calls::line_convex_checker::nodes_in_intervals` meets its contract: an opening's refusal passed up, or the nodes are found on the opened area.
 -- Rests on opening's Using and calling's LineCalls, and Buffers.
-use Rattle.std.proofs.Common.{arith}
-use Rattle.opening.proofs.Using.{is_refusal, usable, has-scratch}
+use Rattle.std.proofs.Common.{rules}
+use Rattle.std.proofs.lemmas.Result.{err_from_is_err_and}
+use Rattle.opening.proofs.Using.{usable, has-scratch}
 use Rattle.calling.proofs.LineCalls.{nodes_refused, nodes_answered}
 use Rattle.byte_calls.proofs.Buffers.{refused_bytes, answered_bytes}
 use Rattle.byte_calls.proofs.line_convex_checker.nodes_in_intervals.Goals as goal
 
-pub refusal-requires : goal.refusal-requires
-refusal-requires c = is_refusal c.open-opened.result c.in_default.not-Ready
-
-pub returns-in_default : goal.returns-in_default
-returns-in_default c = refused_bytes c.args.buffer.now (λ i. omega (arith, c.type_inv.buffer i))
-    (nodes_refused c.open-opened.ensures (is_refusal c.open-opened.result c.in_default.not-Ready) c.refusal.result c.refusal.ensures _ _ _)
+pub returns-in_err-at : goal.returns-in_err-at
+returns-in_err-at c = let p = err_from_is_err_and c.from_residual.result c.from_residual.ensures.1 in
+    rw (p.1, p.2) (refused_bytes c.args.buffer.now (λ i. search rules) (nodes_refused c.in_err-at.ensures _ _ _))
 
 pub nodes_of_records_bytes-found-requires : goal.nodes_of_records_bytes-found-requires
-nodes_of_records_bytes-found-requires c = usable c.open-opened.ensures c.in-Ready.is
+nodes_of_records_bytes-found-requires c = usable c.in_ok-at.ensures
 
 pub clear_scratch-requires : goal.clear_scratch-requires
-clear_scratch-requires c = has-scratch c.open-opened.ensures c.in-Ready.is c.nodes_of_records_bytes-found.ensures.kept
+clear_scratch-requires c = has-scratch c.in_ok-at.ensures c.nodes_of_records_bytes-found.ensures.kept
 
 pub returns : goal.returns
-returns c = answered_bytes c.nodes_of_records_bytes-found.ensures
-    (nodes_answered c.open-opened.ensures c.in-Ready.is c.clear_scratch.ensures _ _)
+returns c = answered_bytes c.nodes_of_records_bytes-found.ensures (nodes_answered c.in_ok-at.ensures c.clear_scratch.ensures _ _)

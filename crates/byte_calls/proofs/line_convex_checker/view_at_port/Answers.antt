@@ -1,29 +1,27 @@
 -- `byte_calls::line_convex_checker::view_at_port` meets its contract: a refusal, or where the port's lines start in the area.
 -- Rests on opening's Using and calling's ViewCalls.
-use Rattle.opening.proofs.Using.{is_refusal, usable-before}
+use Rattle.std.proofs.Common.{rules}
+use Rattle.std.proofs.lemmas.Result.{err_from_is_err_and}
+use Rattle.std.specs.Prelude.{Ok, Err}
+use Rattle.opening.proofs.Using.{usable-before}
 use Rattle.calling.proofs.ViewCalls.{opened, view_refused, view_unknown, view_answered}
 use Rattle.byte_calls.proofs.line_convex_checker.view_at_port.Goals as goal
 
-pub refusal-requires : goal.refusal-requires
-refusal-requires c = is_refusal c.open_shared-opened.result c.in_default.not-Ready
-
-pub returns-in_default : goal.returns-in_default
-returns-in_default c = let known = opened c.args.map.now c.args.area.now c.open_shared-opened.result c.open_shared-opened.ensures in
-    view_refused known _ (is_refusal c.open_shared-opened.result c.in_default.not-Ready) c.refusal.result c.refusal.ensures
+pub returns-in_err-at : goal.returns-in_err-at
+returns-in_err-at c = let p = err_from_is_err_and c.from_residual.result c.from_residual.ensures.1 in
+    rw (p.1, p.2) (view_refused (opened c.args.map.now c.args.area.now (Err c.in_err-at.field-0.0) c.in_err-at.ensures) _)
 
 pub returns-then-at-port : goal.returns-then-at-port
-returns-then-at-port c = let known = opened c.args.map.now c.args.area.now c.open_shared-opened.result c.open_shared-opened.ensures in
-    view_unknown known _ c.in-Ready.is c.if-at-port.true
+returns-then-at-port c = view_unknown (opened c.args.map.now c.args.area.now (Ok c.in_ok-at.at) c.in_ok-at.ensures) _ c.if-at-port.true
 
 pub view_start-offset-requires : goal.view_start-offset-requires
-view_start-offset-requires c = let known = opened c.args.map.now c.args.area.now c.open_shared-opened.result c.open_shared-opened.ensures in
-    record { usable = usable-before known c.in-Ready.is; port_lt_ports = c.if-at-port.false }
+view_start-offset-requires c = let known = opened c.args.map.now c.args.area.now (Ok c.in_ok-at.at) c.in_ok-at.ensures in
+    record { usable = usable-before known; port_lt_ports = search rules }
 
 pub line_count-count-requires : goal.line_count-count-requires
-line_count-count-requires c = let known = opened c.args.map.now c.args.area.now c.open_shared-opened.result c.open_shared-opened.ensures in
-    let usable = usable-before known c.in-Ready.is in
-    record { read = usable.read; links = usable.links; known = c.if-at-port.false }
+line_count-count-requires c = let ready = usable-before (opened c.args.map.now c.args.area.now (Ok c.in_ok-at.at) c.in_ok-at.ensures) in
+    record { read = ready.read; links = ready.links; known = search rules }
 
 pub returns : goal.returns
-returns c = let known = opened c.args.map.now c.args.area.now c.open_shared-opened.result c.open_shared-opened.ensures in
-    view_answered known _ c.in-Ready.is c.if-at-port.false c.view_start-offset.ensures c.line_count-count.ensures
+returns c = view_answered (opened c.args.map.now c.args.area.now (Ok c.in_ok-at.at) c.in_ok-at.ensures) _ c.if-at-port.false
+    c.view_start-offset.ensures c.line_count-count.ensures

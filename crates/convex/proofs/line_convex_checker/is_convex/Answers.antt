@@ -1,29 +1,28 @@
 -- `convex::line_convex_checker::is_convex` meets its contract: an opening's refusal passed up, or list and ports are checked on the opened area;
 -- and its answer keeps demand 3's promise. Rests on opening's Using, calling's TopoCalls and Promises.
-use Rattle.opening.proofs.Using.{is_refusal, usable, has-scratch}
+use Rattle.std.proofs.lemmas.Result.{err_from_is_err_and}
+use Rattle.opening.proofs.Using.{usable, has-scratch}
 use Rattle.convex.proofs.Promises.{line-ports-kept}
 use Rattle.calling.proofs.TopoCalls.{line-ports_refused, line-ports_answered}
 use Rattle.convex.proofs.line_convex_checker.is_convex.Goals as goal
 
-pub refusal-requires : goal.refusal-requires
-refusal-requires c = is_refusal c.open-opened.result c.in_default.not-Ready
-
-pub returns-in_default : goal.returns-in_default
-returns-in_default c = let same =
-    line-ports_refused c.open-opened.ensures (is_refusal c.open-opened.result c.in_default.not-Ready) c.refusal.result c.refusal.ensures
+pub returns-in_err-at : goal.returns-in_err-at
+returns-in_err-at c = let p = err_from_is_err_and c.from_residual.result c.from_residual.ensures.1 in
+    rw (p.1, p.2) (let same =
+    line-ports_refused c.in_err-at.ensures
     c.args.list.now c.args.inputs.now c.args.outputs.now
     in
-    record { area_after = same; line_ports_promise = line-ports-kept same }
+    record { area_after = same; line_ports_promise = line-ports-kept same })
 
 pub check_list_with_ports-ported-requires : goal.check_list_with_ports-ported-requires
-check_list_with_ports-ported-requires c = usable c.open-opened.ensures c.in-Ready.is
+check_list_with_ports-ported-requires c = usable c.in_ok-at.ensures
 
 pub clear_scratch-requires : goal.clear_scratch-requires
-clear_scratch-requires c = has-scratch c.open-opened.ensures c.in-Ready.is c.check_list_with_ports-ported.ensures.kept
+clear_scratch-requires c = has-scratch c.in_ok-at.ensures c.check_list_with_ports-ported.ensures.kept
 
 pub returns : goal.returns
 returns c = let same =
-    line-ports_answered c.open-opened.ensures c.in-Ready.is c.clear_scratch.ensures c.args.list.now c.args.inputs.now c.args.outputs.now
+    line-ports_answered c.in_ok-at.ensures c.clear_scratch.ensures c.args.list.now c.args.inputs.now c.args.outputs.now
     c.check_list_with_ports-ported.ensures
     in
     record { area_after = same; line_ports_promise = line-ports-kept same }

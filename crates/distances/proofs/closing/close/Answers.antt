@@ -19,20 +19,20 @@ round-grown-requires c = record { standing = standing-kept c.requires.standing c
 pub overflow_add-d-in-loop-from : goal.overflow_add-d-in-loop-from
 overflow_add-d-in-loop-from c = omega (arith, not_far c.loop-from.invariant c.loop-from-test.true, c.loop-from.invariant.reached.met.small)
 
-pub smallest_end-end-requires : goal.smallest_end-end-requires
-smallest_end-end-requires c = record { standing = standing-kept c.requires.standing (within_both c.loop-from.invariant.kept c.round-grown.ensures.kept); met = c.round-grown.ensures.met; from_le_to = joins_rise c.loop-from.invariant.reached.met c.round-grown.ensures }
+pub smallest_end-requires : goal.smallest_end-requires
+smallest_end-requires c = record { standing = standing-kept c.requires.standing (within_both c.loop-from.invariant.kept c.round-grown.ensures.kept); met = c.round-grown.ensures.met; from_le_to = joins_rise c.loop-from.invariant.reached.met c.round-grown.ensures }
 
-pub shape_of-area-in-At : goal.shape_of-area-in-At
-shape_of-area-in-At c = c.round-grown.ensures.kept.long ∙ c.loop-from.invariant.kept.long
+pub shape_of-area-in-Some : goal.shape_of-area-in-Some
+shape_of-area-in-Some c = c.round-grown.ensures.kept.long ∙ c.loop-from.invariant.kept.long
 
-pub returns-in-At : goal.returns-in-At
-returns-in-At c = closes_here (is-sound c.requires.standing) c.requires.standing.linked.read.nodes c.loop-from.invariant c.loop-from-test.true c.round-grown.ensures c.smallest_end-end.ensures c.in-At.is
+pub returns-in-Some : goal.returns-in-Some
+returns-in-Some c = closes_here (is-sound c.requires.standing) c.requires.standing.linked.read.nodes c.loop-from.invariant c.loop-from-test.true c.round-grown.ensures c.in-Some.ensures
 
 pub loop-from-smaller : goal.loop-from-smaller
 loop-from-smaller c = omega (arith, c.loop-from-test.true, c.loop-from.invariant.reached.met.few)
 
 pub loop-from-preserved : goal.loop-from-preserved
-loop-from-preserved c = goes_on (is-sound c.requires.standing) c.requires.standing.linked.read.nodes c.loop-from.invariant c.loop-from-test.true c.round-grown.ensures c.smallest_end-end.ensures c.in_default.is
+loop-from-preserved c = goes_on (is-sound c.requires.standing) c.requires.standing.linked.read.nodes c.loop-from.invariant c.loop-from-test.true c.round-grown.ensures c.in_default.ensures
 
 pub shape_of-area : goal.shape_of-area
 shape_of-area c = c.loop-from.invariant.kept.long

@@ -1,10 +1,13 @@
 -- `distances::queue::at_distance` meets its contract: a node without mark was not met, of another the distance tells.
--- Rests on Marking.
-use Rattle.distances.proofs.Marking.{tells_unmarked, tells-marked}
+use Rattle.std.proofs.Common.{arith}
+use Rattle.std.proofs.lemmas.Grind.{common_steps}
+use Rattle.distances.specs.Met.{tells}
 use Rattle.distances.proofs.queue.at_distance.Goals as goal
 
-pub returns-then-area-queue-eq0 : goal.returns-then-area-queue-eq0
-returns-then-area-queue-eq0 c = tells_unmarked _ _ _ _ _ c.if-area-queue-eq0.true
+pub returns-then-area-start-ne0 : goal.returns-then-area-start-ne0
+unfolding tells
+returns-then-area-start-ne0 c = grind (arith, common_steps)
 
-pub returns : goal.returns
-returns c = tells-marked _ _ _ _ _ c.if-area-queue-eq0.false c.word_at.ensures
+pub returns-else-area-start-ne0 : goal.returns-else-area-start-ne0
+unfolding tells
+returns-else-area-start-ne0 c = grind (arith, common_steps)

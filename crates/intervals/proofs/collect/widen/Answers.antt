@@ -4,5 +4,5 @@ use Rattle.intervals.proofs.Buffer.{widened_is}
 use Rattle.intervals.proofs.collect.widen.Goals as goal
 
 pub returns : goal.returns
-returns c = widened_is c.args.records.now c.args.i c.args.pos c.smaller-low.ensures
-    c.larger-high.ensures c.put_record.ensures
+returns c = widened_is c.args.records.now c.args.i c.args.pos c.min-low.ensures
+    c.max-high.ensures c.put_record.ensures

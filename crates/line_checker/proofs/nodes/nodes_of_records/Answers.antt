@@ -1,22 +1,22 @@
 -- `line_checker::nodes::nodes_of_records` meets its contract: the nodes go from the room into the buffer.
--- Rests on NodesFound and Out.
-use Rattle.std.proofs.Common.{ap, arith, rules}
-use Rattle.answers.specs.Said.{nodes_said}
-use Rattle.line_checker.proofs.NodesFound.{not_nodes}
-use Rattle.line_checker.proofs.Out.{no_nodes, nodes-inside, nodes-long, nodes-fit}
+-- Rests on Out.
+use Rattle.std.proofs.Common.{arith, refl, rules}
+use Rattle.std.proofs.lemmas.Result.{err_from_is_err_and}
+use Rattle.line_checker.proofs.Out.{never_answered, no_nodes, nodes-inside, nodes-long, nodes-fit}
 use Rattle.line_checker.proofs.nodes.nodes_of_records.Goals as goal
 
-pub find_nodes-found-requires : goal.find_nodes-found-requires
-find_nodes-found-requires c = record { usable = c.requires; in_bounds = omega (arith, c.node_room-room.ensures) }
+pub find_nodes-requires : goal.find_nodes-requires
+find_nodes-requires c = record { usable = c.requires; in_bounds = omega (arith, c.node_room-room.ensures) }
 
-pub returns-in_default : goal.returns-in_default
-returns-in_default c = no_nodes c.find_nodes-found.ensures c.args.buffer.now (not_nodes c.find_nodes-found.result c.in_default.not-Nodes)
+pub returns-in_err-made : goal.returns-in_err-made
+returns-in_err-made c = let p = err_from_is_err_and c.from_residual.result c.from_residual.ensures.1 in
+    rw (p.1, p.2) (no_nodes c.in_err-made.ensures c.args.buffer.now never_answered)
 
 pub returns-then-buffer-made : goal.returns-then-buffer-made
-returns-then-buffer-made c = nodes-long c.find_nodes-found.ensures c.args.buffer.now (ap nodes_said c.in-Nodes.is) c.if-buffer-made.true
+returns-then-buffer-made c = nodes-long c.in_ok-made.ensures c.args.buffer.now refl c.if-buffer-made.true
 
 pub copy_out-requires : goal.copy_out-requires
-copy_out-requires c = (nodes-inside c.find_nodes-found.ensures c.args.buffer.now (ap nodes_said c.in-Nodes.is), search rules)
+copy_out-requires c = (nodes-inside c.in_ok-made.ensures c.args.buffer.now refl, search rules)
 
 pub returns : goal.returns
-returns c = nodes-fit c.find_nodes-found.ensures c.args.buffer.now (ap nodes_said c.in-Nodes.is) c.if-buffer-made.false c.copy_out.ensures
+returns c = nodes-fit c.in_ok-made.ensures c.args.buffer.now refl c.if-buffer-made.false c.copy_out.ensures

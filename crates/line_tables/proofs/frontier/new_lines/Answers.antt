@@ -9,5 +9,5 @@ returns-then-taken-outgoing c = more_out c.args.taken c.args.outgoing c.if-taken
 pub returns-then-taken-eq0 : goal.returns-then-taken-eq0
 returns-then-taken-eq0 c = no_link c.args.taken c.args.outgoing c.if-taken-outgoing.false c.if-taken-eq0.true
 
-pub returns : goal.returns
-returns c = enough_taken c.args.taken c.args.outgoing c.if-taken-outgoing.false c.if-taken-eq0.false
+pub returns-else-taken-eq0 : goal.returns-else-taken-eq0
+returns-else-taken-eq0 c = enough_taken c.args.taken c.args.outgoing c.if-taken-outgoing.false c.if-taken-eq0.false

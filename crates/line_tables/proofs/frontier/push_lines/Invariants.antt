@@ -1,9 +1,6 @@
-use Rattle.std.proofs.Common.{◌-◌, ◌≡◌, ◌≤◌}
+use Rattle.std.proofs.Common.{◌≡◌}
 use Rattle.line_tables.specs.Steps.{pushed_after}
 use Rattle.line_tables.proofs.frontier.push_lines.Given as goal
 
 abbrev pub invariant-loop-pushed : goal.invariant-loop-pushed
-invariant-loop-pushed l = (l.pushed ≤ l.outgoing) × (l.area ≡ pushed_after l.initial.area l.n l.l l.p l.first l.list l.pushed)
-
-abbrev pub decreases-loop-pushed : goal.decreases-loop-pushed
-decreases-loop-pushed l = l.outgoing - l.pushed
+invariant-loop-pushed l = l.area ≡ pushed_after l.initial.area l.room l.first l.list l.pushed

@@ -3,7 +3,7 @@
 use Rattle.std.proofs.Common.{arith}
 use Rattle.line_tables.proofs.Placing.{is-new}
 use Rattle.line_tables.proofs.Placing.{new-fits, new-small, pushes_all, placed_over, placed-turned, count-placed}
-use Rattle.line_tables.proofs.Reading.{node-read, listing, list_read, next_small, out-inside, first_out, first-last-out, outgoing-is}
+use Rattle.line_tables.proofs.Reading.{node-read, listing, list_read, out-inside, first_out, first-last-out, outgoing-is}
 use Rattle.line_tables.proofs.Keeping.{spread_over, over_over}
 use Rattle.line_tables.proofs.nodes.extend_line_ends_frontier.Goals as goal
 
@@ -11,11 +11,6 @@ pub word_at-first-requires : goal.word_at-first-requires
 word_at-first-requires c = let now = spread_over c.requires.0.spread c.take_node-incoming.ensures.1 in
     let node = node-read now c.requires.1 c.word_at-v.ensures in
     omega (arith, out-inside now c.requires.1 node)
-
-pub overflow_add-v : goal.overflow_add-v
-overflow_add-v c = let now = spread_over c.requires.0.spread c.take_node-incoming.ensures.1 in
-    let node = node-read now c.requires.1 c.word_at-v.ensures in
-    omega (arith, next_small now c.requires.1 node)
 
 pub word_at-requires : goal.word_at-requires
 word_at-requires c = let now = spread_over c.requires.0.spread c.take_node-incoming.ensures.1 in

@@ -3,22 +3,17 @@
 use Rattle.std.proofs.Common.{arith, length, refl, ◌+◌, ◌-◌, ◌≡◌}
 use Rattle.line_tables.proofs.Placing.{takes_all, long_after, node_seated}
 use Rattle.line_tables.proofs.Taking.{node-low}
-use Rattle.line_tables.proofs.Reading.{node-read, listing, list_read, spanned, spanned-next, next_small, first_in, first-last, incoming-is}
+use Rattle.line_tables.proofs.Reading.{node-read, listing, list_read, spanned, spanned-next, first_in, first-last, incoming-is}
 use Rattle.line_tables.specs.Frontier.{node_at}
 use Rattle.counting_sort.specs.Sorted.{below}
 use Rattle.paper.specs.Map.{first_port, in_links}
-use Rattle.line_tables.specs.Layout.{lists_at, in_keys, start_of}
+use Rattle.line_tables.specs.Layout.{in_keys, start_of}
 use Rattle.line_tables.proofs.nodes.take_node.Goals as goal
 
 pub links_start-first-requires : goal.links_start-first-requires
 links_start-first-requires c =
     let is-node : c.word_at-v.result ≡ node_at c.args.b.now c.args.t = node-read c.requires.0.spread c.requires.1 c.word_at-v.ensures in
     spanned c.requires.0.spread c.requires.1 is-node
-
-pub overflow_add-v : goal.overflow_add-v
-overflow_add-v c =
-    let is-node : c.word_at-v.result ≡ node_at c.args.b.now c.args.t = node-read c.requires.0.spread c.requires.1 c.word_at-v.ensures in
-    omega (arith, next_small c.requires.0.spread c.requires.1 is-node)
 
 pub links_start-requires : goal.links_start-requires
 links_start-requires c =
@@ -38,30 +33,20 @@ take_lines-position-requires c =
     let is-node : c.word_at-v.result ≡ node_at c.args.b.now c.args.t = node-read c.requires.0.spread c.requires.1 c.word_at-v.ensures in
     let starts-in : c.links_start-first.result ≡ below (in_keys c.args.b.now) (first_port c.args.b.now (node_at c.args.b.now c.args.t)) = first_in c.requires.0.spread c.requires.1 is-node c.links_start-first.ensures in
     let so-many : c.links_start.result - c.links_start-first.result ≡ length (in_links c.args.b.now (node_at c.args.b.now c.args.t)) = incoming-is c.requires.0.spread c.requires.1 is-node c.links_start-first.ensures c.links_start.ensures in
-    let lists_at_lem : c.list_start-list.result ≡ lists_at c.args.n + start_of c.args.b.now (node_at c.args.b.now c.args.t) = list_read c.requires.0.spread c.requires.1 c.list_start-list.ensures in
+    let lists_at_lem : c.list_start-list.result ≡ c.args.at.lines + start_of c.args.b.now (node_at c.args.b.now c.args.t) = list_read c.requires.0.spread c.requires.1 c.list_start-list.ensures in
     takes_all c.requires.0 c.requires.1 starts-in lists_at_lem so-many
 
-pub overflow_add-area-2 : goal.overflow_add-area-2
-overflow_add-area-2 c =
-    let is-node : c.word_at-v.result ≡ node_at c.args.b.now c.args.t = node-read c.requires.0.spread c.requires.1 c.word_at-v.ensures in
-    omega (arith, node-low c.requires.0.spread c.requires.1, is-node)
-
-pub offset_bounds-area-n : goal.offset_bounds-area-n
-offset_bounds-area-n c =
-    let is-node : c.word_at-v.result ≡ node_at c.args.b.now c.args.t = node-read c.requires.0.spread c.requires.1 c.word_at-v.ensures in
-    omega (arith, node-low c.requires.0.spread c.requires.1, is-node)
-
-pub bounds-area-n : goal.bounds-area-n
-bounds-area-n c =
+pub bounds-area-at : goal.bounds-area-at
+bounds-area-at c =
     let is-node : c.word_at-v.result ≡ node_at c.args.b.now c.args.t = node-read c.requires.0.spread c.requires.1 c.word_at-v.ensures in
     let starts-in : c.links_start-first.result ≡ below (in_keys c.args.b.now) (first_port c.args.b.now (node_at c.args.b.now c.args.t)) = first_in c.requires.0.spread c.requires.1 is-node c.links_start-first.ensures in
     let so-many : c.links_start.result - c.links_start-first.result ≡ length (in_links c.args.b.now (node_at c.args.b.now c.args.t)) = incoming-is c.requires.0.spread c.requires.1 is-node c.links_start-first.ensures c.links_start.ensures in
-    let lists_at_lem : c.list_start-list.result ≡ lists_at c.args.n + start_of c.args.b.now (node_at c.args.b.now c.args.t) = list_read c.requires.0.spread c.requires.1 c.list_start-list.ensures in
+    let lists_at_lem : c.list_start-list.result ≡ c.args.at.lines + start_of c.args.b.now (node_at c.args.b.now c.args.t) = list_read c.requires.0.spread c.requires.1 c.list_start-list.ensures in
     omega (
       arith,
       node-low c.requires.0.spread c.requires.1,
       is-node,
-      c.requires.0.spread.ready.room,
+      c.requires.0.spread.ready.long,
       long_after c.requires.0 c.requires.1 starts-in lists_at_lem so-many c.take_lines-position.ensures.1,
     )
 
@@ -70,6 +55,6 @@ returns c =
     let is-node : c.word_at-v.result ≡ node_at c.args.b.now c.args.t = node-read c.requires.0.spread c.requires.1 c.word_at-v.ensures in
     let starts-in : c.links_start-first.result ≡ below (in_keys c.args.b.now) (first_port c.args.b.now (node_at c.args.b.now c.args.t)) = first_in c.requires.0.spread c.requires.1 is-node c.links_start-first.ensures in
     let so-many : c.links_start.result - c.links_start-first.result ≡ length (in_links c.args.b.now (node_at c.args.b.now c.args.t)) = incoming-is c.requires.0.spread c.requires.1 is-node c.links_start-first.ensures c.links_start.ensures in
-    let lists_at_lem : c.list_start-list.result ≡ lists_at c.args.n + start_of c.args.b.now (node_at c.args.b.now c.args.t) = list_read c.requires.0.spread c.requires.1 c.list_start-list.ensures in
+    let lists_at_lem : c.list_start-list.result ≡ c.args.at.lines + start_of c.args.b.now (node_at c.args.b.now c.args.t) = list_read c.requires.0.spread c.requires.1 c.list_start-list.ensures in
     let left = node_seated c.requires.0 c.requires.1 starts-in lists_at_lem so-many is-node c.take_lines-position.ensures.0 c.take_lines-position.ensures.1 refl in
     (so-many, left.0, left.1)

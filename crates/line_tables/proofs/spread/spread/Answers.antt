@@ -1,10 +1,7 @@
 -- `line_tables::spread::spread` meets its contract: each step finds what the one before it left.
 -- Rests on Spreading.
-use Rattle.line_tables.proofs.Spreading.{roomy, tabled, starting, widths, spreads}
+use Rattle.line_tables.proofs.Spreading.{tabled, starting, widths, spreads}
 use Rattle.line_tables.proofs.spread.spread.Goals as goal
-
-pub links_by_input-requires : goal.links_by_input-requires
-links_by_input-requires c = roomy c.requires
 
 pub source_keys-requires : goal.source_keys-requires
 source_keys-requires c = tabled c.requires c.links_by_input.ensures

@@ -1,128 +1,71 @@
 -- `neighbours::keys::target_keys` meets its contract: after k links the first k keys stand.
 -- Rests on Writing.
-use Rattle.std.proofs.Common.{arith, length, map, refl, rules, ◌*◌, ◌+◌, ◌<◌, ◌^◌, ◌∙◌, ◌≡◌}
-use lib.Seq.{sets}
-use Rattle.lists.specs.Lists.{upto}
-use Rattle.lists.proofs.Upto.{at_the_end}
+use Rattle.std.proofs.Common.{arith, length, ◌+◌, ◌<◌, ◌∙◌, ◌≡◌}
 use Rattle.paper.specs.Map.{target_port}
 use Rattle.order_theory.proofs.Refusals.{sound}
-use Rattle.neighbours.proofs.Writing.{has-link, target-known, target_below, as_long, key_inside, first-inside, first-stands, one_more, target_key}
+use Rattle.neighbours.proofs.Writing.{target-known, target_below, first-inside, first-stands, one_more, target_key}
 use Rattle.neighbours.proofs.keys.target_keys.Goals as goal
 
-pub loop-k-init : goal.loop-k-init
-loop-k-init c = (search rules, refl)
-
-pub link_to-v-requires : goal.link_to-v-requires
-link_to-v-requires c = has-link c.requires.read (sound _ c.requires.links) c.loop-k-test.true
-
-pub overflow_add-firsts : goal.overflow_add-firsts
-overflow_add-firsts c =
-    let is_known : c.link_to-v.result < c.args.n = omega (
+pub overflow_add-at : goal.overflow_add-at
+overflow_add-at c =
+    let is_known : c.link_to-v.result < c.args.sizes.nodes = omega (
       arith,
       c.link_to-v.ensures,
       target-known c.requires.read (sound _ c.requires.links) c.loop-k-test.true,
     ) in
-    let at_first : c.args.firsts + c.link_to-v.result < length c.loop-k.area = first-inside c.requires (target_port c.args.b.now) c.loop-k-test.true c.loop-k.invariant.1 is_known in
-    let bytes : length c.loop-k.area * 2 < 2 ^ 63 = rw (as_long c.requires (target_port c.args.b.now) c.loop-k.k c.loop-k.invariant.1) c.well_formed.1.1.1.1.0.1 in
-    omega (arith, at_first, bytes)
+    let at_first : c.args.at.firsts + c.link_to-v.result < length c.loop-k.area = first-inside c.requires (target_port c.args.b.now) c.loop-k-test.true c.loop-k.invariant is_known in
+    omega arith
 
-pub offset_bounds-area-firsts : goal.offset_bounds-area-firsts
-offset_bounds-area-firsts c =
-    let is_known : c.link_to-v.result < c.args.n = omega (
+pub offset_bounds-area-at : goal.offset_bounds-area-at
+offset_bounds-area-at c =
+    let is_known : c.link_to-v.result < c.args.sizes.nodes = omega (
       arith,
       c.link_to-v.ensures,
       target-known c.requires.read (sound _ c.requires.links) c.loop-k-test.true,
     ) in
-    let at_first : c.args.firsts + c.link_to-v.result < length c.loop-k.area = first-inside c.requires (target_port c.args.b.now) c.loop-k-test.true c.loop-k.invariant.1 is_known in
-    let bytes : length c.loop-k.area * 2 < 2 ^ 63 = rw (as_long c.requires (target_port c.args.b.now) c.loop-k.k c.loop-k.invariant.1) c.well_formed.1.1.1.1.0.1 in
-    omega (arith, at_first, bytes)
+    let at_first : c.args.at.firsts + c.link_to-v.result < length c.loop-k.area = first-inside c.requires (target_port c.args.b.now) c.loop-k-test.true c.loop-k.invariant is_known in
+    omega arith
 
-pub bounds-area-firsts : goal.bounds-area-firsts
-bounds-area-firsts c =
-    let is_known : c.link_to-v.result < c.args.n = omega (
+pub bounds-area-at : goal.bounds-area-at
+bounds-area-at c =
+    let is_known : c.link_to-v.result < c.args.sizes.nodes = omega (
       arith,
       c.link_to-v.ensures,
       target-known c.requires.read (sound _ c.requires.links) c.loop-k-test.true,
     ) in
-    let at_first : c.args.firsts + c.link_to-v.result < length c.loop-k.area = first-inside c.requires (target_port c.args.b.now) c.loop-k-test.true c.loop-k.invariant.1 is_known in
-    at_first
-
-pub wide-requires : goal.wide-requires
-wide-requires c = tt
-
-pub link_in-requires : goal.link_in-requires
-link_in-requires c = has-link c.requires.read (sound _ c.requires.links) c.loop-k-test.true
+    first-inside c.requires (target_port c.args.b.now) c.loop-k-test.true c.loop-k.invariant is_known
 
 pub overflow_add-key : goal.overflow_add-key
 overflow_add-key c =
-    let is_known : c.link_to-v.result < c.args.n = omega (
+    let is_known : c.link_to-v.result < c.args.sizes.nodes = omega (
       arith,
       c.link_to-v.ensures,
       target-known c.requires.read (sound _ c.requires.links) c.loop-k-test.true,
     ) in
-    let is_key : c.wide.result + c.link_in.result ≡ target_port c.args.b.now c.loop-k.k = target_key c.args.b.now c.loop-k.k c.link_to-v.ensures
-    (c.wide.ensures
-    ∙ first-stands c.requires (target_port c.args.b.now) c.loop-k-test.true c.loop-k.invariant.1 is_known)
-    c.link_in.ensures in
+    let is_key : c.from.result + c.link_in.result ≡ target_port c.args.b.now c.loop-k.k = target_key c.args.b.now c.loop-k.k c.link_to-v.ensures
+    (c.from.ensures ∙ first-stands c.requires (target_port c.args.b.now) c.loop-k-test.true c.loop-k.invariant is_known) c.link_in.ensures in
     let small : target_port c.args.b.now c.loop-k.k < 4096 = omega (arith, target_below c.requires.read (sound _ c.requires.links) c.loop-k-test.true, c.requires.read.few-ports) in
     omega (arith, is_key, small)
 
 pub overflow_cast-area : goal.overflow_cast-area
 overflow_cast-area c =
-    let is_known : c.link_to-v.result < c.args.n = omega (
+    let is_known : c.link_to-v.result < c.args.sizes.nodes = omega (
       arith,
       c.link_to-v.ensures,
       target-known c.requires.read (sound _ c.requires.links) c.loop-k-test.true,
     ) in
-    let is_key : c.wide.result + c.link_in.result ≡ target_port c.args.b.now c.loop-k.k = target_key c.args.b.now c.loop-k.k c.link_to-v.ensures
-    (c.wide.ensures
-    ∙ first-stands c.requires (target_port c.args.b.now) c.loop-k-test.true c.loop-k.invariant.1 is_known)
-    c.link_in.ensures in
+    let is_key : c.from.result + c.link_in.result ≡ target_port c.args.b.now c.loop-k.k = target_key c.args.b.now c.loop-k.k c.link_to-v.ensures
+    (c.from.ensures ∙ first-stands c.requires (target_port c.args.b.now) c.loop-k-test.true c.loop-k.invariant is_known) c.link_in.ensures in
     let small : target_port c.args.b.now c.loop-k.k < 4096 = omega (arith, target_below c.requires.read (sound _ c.requires.links) c.loop-k-test.true, c.requires.read.few-ports) in
     omega (arith, is_key, small)
 
-pub overflow_add-area : goal.overflow_add-area
-overflow_add-area c =
-    let at_key : c.args.keys + c.loop-k.k < length c.loop-k.area = key_inside c.requires (target_port c.args.b.now) c.loop-k-test.true c.loop-k.invariant.1 in
-    let bytes : length c.loop-k.area * 2 < 2 ^ 63 = rw (as_long c.requires (target_port c.args.b.now) c.loop-k.k c.loop-k.invariant.1) c.well_formed.1.1.1.1.0.1 in
-    omega (arith, at_key, bytes)
-
-pub offset_bounds-area-keys : goal.offset_bounds-area-keys
-offset_bounds-area-keys c =
-    let at_key : c.args.keys + c.loop-k.k < length c.loop-k.area = key_inside c.requires (target_port c.args.b.now) c.loop-k-test.true c.loop-k.invariant.1 in
-    let bytes : length c.loop-k.area * 2 < 2 ^ 63 = rw (as_long c.requires (target_port c.args.b.now) c.loop-k.k c.loop-k.invariant.1) c.well_formed.1.1.1.1.0.1 in
-    omega (arith, at_key, bytes)
-
-pub bounds-area-keys : goal.bounds-area-keys
-bounds-area-keys c =
-    let at_key : c.args.keys + c.loop-k.k < length c.loop-k.area = key_inside c.requires (target_port c.args.b.now) c.loop-k-test.true c.loop-k.invariant.1 in
-    at_key
-
-pub overflow_add-k : goal.overflow_add-k
-overflow_add-k c = omega arith
-
-pub loop-k-smaller : goal.loop-k-smaller
-loop-k-smaller c = omega arith
-
 pub loop-k-preserved : goal.loop-k-preserved
 loop-k-preserved c =
-    let is_known : c.link_to-v.result < c.args.n = omega (
+    let is_known : c.link_to-v.result < c.args.sizes.nodes = omega (
       arith,
       c.link_to-v.ensures,
       target-known c.requires.read (sound _ c.requires.links) c.loop-k-test.true,
     ) in
-    let is_key : c.wide.result + c.link_in.result ≡ target_port c.args.b.now c.loop-k.k = target_key c.args.b.now c.loop-k.k c.link_to-v.ensures
-    (c.wide.ensures
-    ∙ first-stands c.requires (target_port c.args.b.now) c.loop-k-test.true c.loop-k.invariant.1 is_known)
-    c.link_in.ensures in (
-      omega (arith, c.loop-k-test.true),
-      one_more c.requires (target_port c.args.b.now) c.loop-k-test.true c.loop-k.invariant.1 is_key,
-    )
-
-pub shape_of-area : goal.shape_of-area
-shape_of-area c = as_long c.requires (target_port c.args.b.now) c.loop-k.k c.loop-k.invariant.1
-
-pub returns : goal.returns
-returns c = c.loop-k.invariant.1
-    ∙ at_the_end (λ k. sets c.args.area.now c.args.keys (map (target_port c.args.b.now) (upto k)))
-    c.loop-k.invariant.0 c.loop-k-test.false
+    let is_key : c.from.result + c.link_in.result ≡ target_port c.args.b.now c.loop-k.k = target_key c.args.b.now c.loop-k.k c.link_to-v.ensures
+    (c.from.ensures ∙ first-stands c.requires (target_port c.args.b.now) c.loop-k-test.true c.loop-k.invariant is_known) c.link_in.ensures in
+    one_more c.requires (target_port c.args.b.now) c.loop-k-test.true c.loop-k.invariant is_key

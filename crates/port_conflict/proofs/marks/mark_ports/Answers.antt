@@ -1,22 +1,19 @@
 -- `port_conflict::marks::mark_ports` meets its contract: after i entries none is unknown, and exactly they are marked.
 -- Rests on Marking.
-use Rattle.std.proofs.Common.{ap, arith, not}
+use Rattle.std.proofs.Common.{ap, arith, not, ◌∙◌}
 use Rattle.port_conflict.proofs.Marking.{marking_starts, marking_next, unknown_entry, all_known}
 use Rattle.port_conflict.proofs.marks.mark_ports.Goals as goal
 
 pub loop-i-init : goal.loop-i-init
-loop-i-init c = marking_starts c.args.area.now c.args.marks c.args.p c.requires c.fill.ensures c.args.ports.now
+loop-i-init g c = marking_starts c.args.area.now c.args.marks c.args.p c.requires c.fill.ensures _
 
 pub returns-then-not-mark_port : goal.returns-then-not-mark_port
-returns-then-not-mark_port c = unknown_entry c.args.area.now c.args.marks c.args.p c.requires c.fill.ensures c.args.ports.now c.loop-i.invariant c.loop-i-test.true
-    c.wide.ensures c.mark_port.ensures (ap not c.if-not-mark_port.true)
-
-pub loop-i-smaller : goal.loop-i-smaller
-loop-i-smaller c = omega arith
+returns-then-not-mark_port g c = unknown_entry c.args.area.now c.args.marks c.args.p c.requires c.fill.ensures _ c.loop-i.invariant (omega arith)
+    (c.from.ensures ∙ c.entry.ensures) c.mark_port.ensures (ap not c.if-not-mark_port.true)
 
 pub loop-i-preserved : goal.loop-i-preserved
-loop-i-preserved c = marking_next c.args.area.now c.args.marks c.args.p c.requires c.fill.ensures c.args.ports.now c.loop-i.invariant c.loop-i-test.true
-    c.wide.ensures c.mark_port.ensures (ap not c.if-not-mark_port.false)
+loop-i-preserved g c = marking_next c.args.area.now c.args.marks c.args.p c.requires c.fill.ensures _ c.loop-i.invariant (omega arith)
+    (c.from.ensures ∙ c.entry.ensures) c.mark_port.ensures (ap not c.if-not-mark_port.false)
 
 pub returns : goal.returns
-returns c = all_known c.args.area.now c.args.marks c.args.p c.requires c.fill.ensures c.args.ports.now c.loop-i.invariant c.loop-i-test.false
+returns g c = all_known c.args.area.now c.args.marks c.args.p c.requires c.fill.ensures _ c.loop-i.invariant (omega arith) (omega arith)

@@ -9,4 +9,4 @@ use Rattle.recorded.proofs.held.is_nodes_answer.Goals as goal
 pub returns : goal.returns
 unfolding told_words count_words
 returns c = c.is_told_with.ensures
-    ∙ ap (λ (t : Told). same (drop c.args.at c.args.words.now) (with_list (told_words t) c.args.buffer.now)) c.tell_nodes-case.ensures
+    ∙ ap (λ (t : Told). same (drop c.args.at c.args.words.now) (with_list (told_words t) c.args.buffer.now)) c.tell_count-case.ensures

@@ -8,4 +8,4 @@ use Rattle.recorded.proofs.held.is_prepared.Goals as goal
 
 pub returns : goal.returns
 unfolding told_words count_words
-returns c = c.is_told.ensures ∙ ap (λ (t : Told). same (drop c.args.at c.args.words.now) (told_words t)) c.tell_prepared-case.ensures
+returns c = c.is_told.ensures ∙ ap (λ (t : Told). same (drop c.args.at c.args.words.now) (told_words t)) c.tell_count-case.ensures

@@ -1,12 +1,11 @@
-use Rattle.std.proofs.Common.{ap, rules, sym, ◌∙◌}
-use Rattle.stepmap.specs.Said.{map_said}
+use Rattle.std.proofs.Common.{rules}
 use Rattle.stepmap.proofs.Answers.{read_well}
 use Rattle.tables.proofs.Placed.{few}
 use Rattle.replaying.specs.Inside.{Inside}
 use Rattle.replaying.proofs.lent.scratch.Goals as goal
 
 pub lay_out-at-requires : goal.lay_out-at-requires
-lay_out-at-requires c = few (read_well _ _ _ _ (ap map_said (sym c.in-Sized.is) ∙ c.read_map-found.ensures))
+lay_out-at-requires c = few (read_well _ _ c.in-Ok.ensures)
 
 pub returns-in_default : goal.returns-in_default
 unfolding Inside

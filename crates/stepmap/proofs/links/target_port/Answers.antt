@@ -14,7 +14,7 @@ bounds-firsts-to c = omega (arith, node-below c.requires.has_link c.requires.fir
 pub overflow_add-result : goal.overflow_add-result
 overflow_add-result c = let small = c.type_inv.firsts c.link_to-to.result in
     let below = in_below c.args.b.now c.type_inv.b c.args.k in
-    omega (arith, c.wide.ensures, c.link_in.ensures)
+    omega (arith, c.from.ensures, c.link_in.ensures)
 
 pub returns : goal.returns
-returns c = target c.requires.has_link c.requires.firsts c.requires.k_value c.link_to-to.ensures c.wide.ensures c.link_in.ensures
+returns c = target c.requires.has_link c.requires.firsts c.requires.k_value c.link_to-to.ensures c.from.ensures c.link_in.ensures

@@ -1,28 +1,27 @@
--- `text::reader::value_of` meets its contract. The loop: what the digits say is what those from i on say after the value so far.
+-- `text::reader::value_of` meets its contract. The loop: what the digits say is what those left say after the value so far.
 -- Rests on Numbers.
-use Rattle.std.proofs.Common.{arith, drop, refl, rules, sym, ◌+◌, ◌∙◌}
-use Rattle.text.proofs.Numbers.{read_over, too_large, digit_below, digit_above, digit_more}
+use Rattle.std.proofs.Common.{arith, drop, rules, sym, ◌+◌, ◌∙◌}
+use Rattle.paper.specs.Text.{is_digit}
+use Rattle.text.proofs.Numbers.{read_over, too_large, digit_none, digit_more}
 use Rattle.text.proofs.reader.value_of.Goals as goal
 
-pub loop-i-init : goal.loop-i-init
-loop-i-init c = (search rules, search rules, refl)
-
-pub returns-then-x-lt48 : goal.returns-then-x-lt48
-returns-then-x-lt48 c = digit_below _ c.loop-i.i c.loop-i.value c.loop-i-test.true (omega arith) ∙ sym c.loop-i.invariant.2
-
-pub returns-then-x-gt57 : goal.returns-then-x-gt57
-returns-then-x-gt57 c = digit_above _ c.loop-i.i c.loop-i.value c.loop-i-test.true (omega arith) ∙ sym c.loop-i.invariant.2
+pub returns-then-not-is_ascii_digit : goal.returns-then-not-is_ascii_digit
+unfolding is_digit
+returns-then-not-is_ascii_digit c =
+    digit_none _ c.loop-x.x-index c.loop-x.value c.loop-x-test.true (sym c.is_ascii_digit.ensures.value ∙ c.if-not-is_ascii_digit.true)
+    ∙ sym c.loop-x.invariant.1
 
 pub returns-then-value-gt65535 : goal.returns-then-value-gt65535
-returns-then-value-gt65535 c = too_large _ (drop (c.loop-i.i + 1) c.args.text.now) (omega arith)
-    ∙ sym (c.loop-i.invariant.2 ∙ digit_more c.args.text.now c.loop-i.i c.loop-i.value c.loop-i-test.true (omega arith) (omega arith) c.digit.ensures)
+unfolding is_digit
+returns-then-value-gt65535 c = too_large _ (drop (c.loop-x.x-index + 1) c.args.text.now) (omega arith)
+    ∙ sym (c.loop-x.invariant.1 ∙ digit_more c.args.text.now c.loop-x.x-index c.loop-x.value c.loop-x-test.true (sym c.is_ascii_digit.ensures.value ∙ c.if-not-is_ascii_digit.false) c.digit.ensures)
 
-pub loop-i-preserved : goal.loop-i-preserved
-loop-i-preserved c = (
+pub loop-x-preserved : goal.loop-x-preserved
+unfolding is_digit
+loop-x-preserved c = (
   search rules,
-  search rules,
-  c.loop-i.invariant.2 ∙ digit_more c.args.text.now c.loop-i.i c.loop-i.value c.loop-i-test.true (omega arith) (omega arith) c.digit.ensures,
+  c.loop-x.invariant.1 ∙ digit_more c.args.text.now c.loop-x.x-index c.loop-x.value c.loop-x-test.true (sym c.is_ascii_digit.ensures.value ∙ c.if-not-is_ascii_digit.false) c.digit.ensures,
 )
 
 pub returns : goal.returns
-returns c = read_over _ _ c.loop-i-test.false c.loop-i.invariant.1 ∙ sym c.loop-i.invariant.2
+returns c = read_over _ _ c.loop-x-test.false c.loop-x.invariant.0 ∙ sym c.loop-x.invariant.1

@@ -1,32 +1,19 @@
--- `topo_checker::near::meets_listed` meets its contract: none of the links passed leads to a listed place in the range.
--- Rests on Nearby.
-use Rattle.std.proofs.Common.{arith, below_more, below_none, rules, sym, ◌+◌}
-use Rattle.lists.proofs.AllAny.{any_true, any_false}
-use Rattle.topo_checker.proofs.Nearby.{mark-fits, number_fits, listed_so}
+-- `topo_checker::near::meets_listed` meets its contract: each link is known, and what the search finds is the test of any of them.
+-- Rests on Found and Neighbours.
+use Rattle.std.proofs.Common.{Bool, arith, refl, rules, ℕ, ◌+◌, ◌∙◌}
+use Rattle.std.proofs.iter.Serving.{serving}
+use Rattle.std.proofs.lemmas.Iterator.{YieldsList-from_range}
+use Rattle.std.proofs.lemmas.Iterator.Search.{any_from_yields_List}
+use Rattle.topo_checker.specs.Near.{is_listed, place_reached}
+use Rattle.topo_checker.proofs.Found.{any_found}
+use Rattle.topo_checker.proofs.Neighbours.{reached-low}
 use Rattle.topo_checker.proofs.near.meets_listed.Goals as goal
 
-pub loop-x-init : goal.loop-x-init
-loop-x-init c = (search rules, below_none _)
-
-pub overflow_add-start : goal.overflow_add-start
-overflow_add-start c = number_fits _ c.requires.laid.usable.read.few-links (omega (arith, c.requires.count_bound, c.loop-x-test.true))
-
-pub place_reached-j-requires : goal.place_reached-j-requires
-place_reached-j-requires c = record { laid = c.requires.laid; x_lt_links = omega (arith, c.requires.count_bound, c.loop-x-test.true) }
-
-pub is_listed-requires : goal.is_listed-requires
-is_listed-requires c = mark-fits c.requires.laid c.place_reached-j.ensures (omega (arith, c.requires.count_bound, c.loop-x-test.true))
-
-pub returns-then-is_listed : goal.returns-then-is_listed
-returns-then-is_listed c = sym (any_true _ c.args.count c.loop-x.x c.loop-x-test.true
-    (listed_so c.args.b.now c.args.area.now c.args.room (c.args.start + c.loop-x.x) c.args.first c.args.last c.place_reached-j.ensures c.is_listed.ensures c.if-is_listed.true))
-
-pub loop-x-preserved : goal.loop-x-preserved
-loop-x-preserved c = (
-  omega (arith, c.loop-x-test.true),
-  below_more _ c.loop-x.x c.loop-x.invariant.1
-      (listed_so c.args.b.now c.args.area.now c.args.room (c.args.start + c.loop-x.x) c.args.first c.args.last c.place_reached-j.ensures c.is_listed.ensures c.if-is_listed.false),
-)
+pub any-requires-clause-callable : goal.any-requires-clause-callable
+any-requires-clause-callable c = grind (serving, reached-low)
 
 pub returns : goal.returns
-returns c = sym (any_false _ c.args.count (λ y h. c.loop-x.invariant.1 y (omega (arith, c.loop-x-test.false))))
+returns c =
+    let test : ℕ → Bool = λ x. is_listed c.args.area.now c.args.room.listed c.args.first c.args.last (place_reached c.args.b.now c.args.area.now c.args.room (c.args.start + x)) in
+    any_from_yields_List test _ _ c.any.result c.any.ensures.ran (YieldsList-from_range 0 c.args.count c.args.count refl (omega arith)) (λ x b q k. search rules)
+    ∙ any_found test c.args.count

@@ -1,9 +1,5 @@
-use Rattle.std.proofs.Common.{◌+◌, ◌-◌, ◌≤◌}
 use Rattle.topo_checker.proofs.Following.{GoingOn}
 use Rattle.topo_checker.proofs.passing.fed_back.Given as goal
 
 abbrev pub invariant-loop-i : goal.invariant-loop-i
-invariant-loop-i l = (l.i ≤ l.last + 1) × GoingOn l.b l.initial.area l.at l.room l.first l.last l.i l.area
-
-abbrev pub decreases-loop-i : goal.decreases-loop-i
-decreases-loop-i l = l.last + 1 - l.i
+invariant-loop-i l = GoingOn l.b l.initial.area l.at l.room l.first l.last l.i l.area

@@ -1,17 +1,17 @@
--- `topo_checker::passing::marked_convex` meets its contract: one place at most is a yes, and else the range is passed.
+-- `topo_checker::passing::marked_convex` meets its contract: no place is a yes, and else the range is passed.
 -- Rests on Marked.
 use Rattle.std.proofs.Common.{arith}
-use Rattle.topo_checker.proofs.Marked.{few-marked, unpassed, range_marked}
+use Rattle.topo_checker.proofs.Marked.{none_marked, unpassed, range_marked}
 use Rattle.topo_checker.proofs.passing.marked_convex.Goals as goal
 
-pub marked_extent-places-requires : goal.marked_extent-places-requires
-marked_extent-places-requires c = omega (arith, c.requires.laid.placed)
+pub marked_extent-requires : goal.marked_extent-requires
+marked_extent-requires c = omega (arith, c.requires.laid.placed)
 
 pub returns-in_default : goal.returns-in_default
-returns-in_default c = few-marked c.args.b.now c.args.at c.args.room c.marked_extent-places.ensures c.in_default.not-Range
+returns-in_default c = none_marked c.args.b.now c.args.at c.args.room c.in_default.ensures
 
 pub fed_back-requires : goal.fed_back-requires
-fed_back-requires c = record { laid = c.requires.laid; unpassed = unpassed c.args.b.now c.args.at c.args.room c.marked_extent-places.ensures c.in-Range.is c.requires.fresh }
+fed_back-requires c = record { laid = c.requires.laid; unpassed = unpassed c.args.b.now c.args.at c.args.room c.in-Some.ensures c.requires.fresh }
 
 pub returns : goal.returns
-returns c = range_marked c.args.b.now c.args.at c.args.room c.marked_extent-places.ensures c.in-Range.is c.fed_back.ensures
+returns c = range_marked c.args.b.now c.args.at c.args.room c.in-Some.ensures c.fed_back.ensures

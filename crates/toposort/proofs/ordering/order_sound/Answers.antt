@@ -7,13 +7,11 @@ use Rattle.toposort.proofs.ordering.order_sound.Goals as goal
 pub lay_outgoing-links-requires : goal.lay_outgoing-links-requires
 lay_outgoing-links-requires c = free c.requires
 
-pub toposort-found-requires : goal.toposort-found-requires
-toposort-found-requires c = indexed c.requires c.lay_outgoing-links.ensures
+pub toposort-requires : goal.toposort-requires
+toposort-requires c = indexed c.requires c.lay_outgoing-links.ensures
 
-pub returns-in_default : goal.returns-in_default
-returns-in_default c = all-ordered (order-laid c.requires c.lay_outgoing-links.ensures c.toposort-found.ensures.1)
-    c.toposort-found.ensures.0 c.in_default.is
+pub returns-in-Ok : goal.returns-in-Ok
+returns-in-Ok c = all-ordered (order-laid c.requires c.lay_outgoing-links.ensures c.toposort.ensures.1) c.in-Ok.ensures.0
 
-pub returns : goal.returns
-returns c = cycle-found (order-laid c.requires c.lay_outgoing-links.ensures c.toposort-found.ensures.1)
-    c.toposort-found.ensures.0 _ c.in-Cycle.is c.fill.ensures
+pub returns-in-Err : goal.returns-in-Err
+returns-in-Err c = cycle-found (order-laid c.requires c.lay_outgoing-links.ensures c.toposort.ensures.1) c.in-Err.ensures.0 c.fill.ensures

@@ -1,6 +1,6 @@
 -- `varddohas::line_exports::varddohas_get_intervals_from_nodes` meets its contract: the call is asked on the words that cross, and what it leaves is put back.
 -- Rests on Exported and crossing's Crossed.
-use Rattle.std.proofs.Common.{arith}
+use Rattle.std.proofs.Common.{rules}
 use Rattle.paper.specs.Calls.{get_intervals_from_nodes}
 use Rattle.paper.specs.Words.{words_from}
 use Rattle.crossing.proofs.Crossed.{intervals_cross}
@@ -18,4 +18,4 @@ returns c = let held = held-read _ _ c.area_room-room.ensures c.read_area-words.
     exported_with held
     (λ a. get_intervals_from_nodes c.args.map.now a (words_from c.args.list.now) (words_from c.args.buffer.now))
     (intervals_cross _ _ _ _) c.args.buffer.now c.get_intervals_from_nodes-answer.ensures
-    (λ i. omega (arith, c.slice_known-1.given i)) c.put_words.ensures _ _ _ _ c.tell_intervals.ensures
+    (λ i. search rules) c.put_words.ensures _ _ _ _ c.tell_written.ensures.written

@@ -1,6 +1,6 @@
 -- `varddohas::line_exports::varddohas_line_is_node_convex` meets its contract: the call is asked on the words that cross, and what it leaves is put back;
 -- and what is told keeps demand 3's promise. Rests on Exported, Promises and crossing's Crossed.
-use Rattle.std.proofs.Common.{arith}
+use Rattle.std.proofs.Common.{rules}
 use Rattle.paper.specs.Calls.{is_node_convex}
 use Rattle.paper.specs.Words.{words_from}
 use Rattle.crossing.proofs.Crossed.{line_crosses}
@@ -20,6 +20,6 @@ returns c = let held = held-read _ _ c.area_room-room.ensures c.read_area-words.
     exported held
     (λ a. is_node_convex c.args.map.now a (words_from c.args.list.now))
     (line_crosses _ _ _) c.is_node_convex-answer.ensures
-    (λ i. omega (arith, c.slice_known-1.given i)) c.put_words.ensures _ _ _ _ c.tell_line.ensures
+    (λ i. search rules) c.put_words.ensures _ _ _ _ c.tell_line.ensures
     in
     record { area_after = same; line_promise = line_kept _ _ _ _ same }

@@ -1,6 +1,6 @@
 -- `varddohas::line_exports::varddohas_lines_at_port` meets its contract: the call is asked on the words that cross, and what it leaves is put back.
 -- Rests on Exported and crossing's Crossed.
-use Rattle.std.proofs.Common.{arith}
+use Rattle.std.proofs.Common.{rules}
 use Rattle.paper.specs.Calls.{lines_at_port}
 use Rattle.crossing.proofs.Crossed.{port_crosses}
 use Rattle.varddohas.proofs.Exported.{held-read, room_back, exported}
@@ -17,4 +17,4 @@ returns c = let held = held-read _ _ c.area_room-room.ensures c.read_area-words.
     exported held
     (λ a. lines_at_port c.args.map.now a c.args.port)
     (port_crosses _ _ _) c.lines_at_port-answer.ensures
-    (λ i. omega (arith, c.slice_known-1.given i)) c.put_words.ensures _ _ _ _ c.tell_port.ensures
+    (λ i. search rules) c.put_words.ensures _ _ _ _ c.tell_port.ensures

@@ -1,6 +1,6 @@
 -- `varddohas::path_export::varddohas_show_path` meets its contract: the call is asked on the words that cross, and what it leaves is put back;
 -- and what is told, with what stands in the buffer, keeps the path's promise. Rests on Exported, Promises and crossing's Crossed.
-use Rattle.std.proofs.Common.{arith}
+use Rattle.std.proofs.Common.{rules}
 use Rattle.paper.specs.Calls.{show_path}
 use Rattle.paper.specs.Words.{words_from}
 use Rattle.crossing.proofs.Crossed.{path_crosses}
@@ -20,6 +20,6 @@ returns c = let held = held-read _ _ c.area_room-room.ensures c.read_area-words.
     exported_with held
     (λ a. show_path c.args.map.now a (words_from c.args.list.now) (words_from c.args.buffer.now))
     (path_crosses _ _ _ _) c.args.buffer.now c.show_path-answer.ensures
-    (λ i. omega (arith, c.slice_known-1.given i)) c.put_words.ensures _ _ _ _ c.tell_path.ensures
+    (λ i. search rules) c.put_words.ensures _ _ _ _ c.tell_written.ensures.shown
     in
     record { buffer_after = same; path_promise = path-kept _ _ _ _ _ same }

@@ -5,47 +5,26 @@ use Rattle.neighbours.proofs.Passing.{targets_rise, link-known, target_below, al
 use Rattle.walk.proofs.Neighbours.{grown_as, leading-kept, links-start, links-next}
 use Rattle.walk.proofs.links.join_neighbours.Goals as goal
 
-pub targets_start-i-requires : goal.targets_start-i-requires
-targets_start-i-requires c = record { outgoing = c.requires.leading.linked; v_le_nodes = omega (arith, c.requires.v_lt_nodes) }
-
-pub overflow_add-v : goal.overflow_add-v
-overflow_add-v c = omega (arith, c.requires.v_lt_nodes, c.requires.queued.small)
-
-pub targets_start-end-requires : goal.targets_start-end-requires
-targets_start-end-requires c = record { outgoing = c.requires.leading.linked; v_le_nodes = omega (arith, c.requires.v_lt_nodes) }
-
 pub loop-i-init : goal.loop-i-init
-loop-i-init c = (
-  omega (arith, c.targets_start-i.ensures),
-  omega (arith, c.targets_start-i.ensures, c.targets_start-end.ensures, targets_rise c.requires.leading.linked c.requires.v_lt_nodes),
-  links-start c.args.b.now c.args.v c.targets_start-i.ensures c.requires.queued,
-)
+loop-i-init c = links-start c.args.b.now c.args.v c.targets_start-start.ensures c.requires.queued
 
 pub target_at-w-requires : goal.target_at-w-requires
-target_at-w-requires c = record { outgoing = (leading-kept c.requires.leading c.loop-i.invariant.2.kept).linked; i_lt_links = link-known c.requires.leading.linked c.requires.v_lt_nodes c.targets_start-end.ensures c.loop-i-test.true }
-
-pub join-grown-requires : goal.join-grown-requires
-join-grown-requires c = record {
-  queued = c.loop-i.invariant.2.queued;
-  v_lt_n = target_below c.requires.leading.linked c.requires.v_lt_nodes c.targets_start-end.ensures c.loop-i-test.true
-      c.target_at-w.ensures;
+target_at-w-requires c = record {
+  outgoing = (leading-kept c.requires.leading c.loop-i.invariant.kept).linked;
+  i_lt_links = link-known c.requires.leading.linked c.requires.v_lt_nodes c.targets_start-end.ensures c.loop-i-test.true;
 }
 
-pub loop-i-smaller : goal.loop-i-smaller
-loop-i-smaller c = omega (arith, c.loop-i-test.true)
+pub join-grown-requires-clause-v_lt_n : goal.join-grown-requires-clause-v_lt_n
+join-grown-requires-clause-v_lt_n c = target_below c.requires.leading.linked c.requires.v_lt_nodes c.targets_start-end.ensures c.loop-i-test.true
+    c.target_at-w.ensures
 
 pub loop-i-preserved : goal.loop-i-preserved
-loop-i-preserved c = (
-  omega (arith, c.loop-i.invariant.0),
-  omega (arith, c.loop-i-test.true),
-  links-next c.args.b.now c.args.v c.loop-i.i c.loop-i.invariant.0 c.loop-i.invariant.2 c.target_at-w.ensures
-      c.join-grown.ensures,
-)
-
-pub shape_of-area : goal.shape_of-area
-shape_of-area c = c.loop-i.invariant.2.kept.long
+loop-i-preserved c = links-next c.args.b.now c.args.v c.loop-i.i (omega (arith, c.targets_start-start.ensures, c.loop-i.auto.i)) c.loop-i.invariant c.target_at-w.ensures
+    c.join-grown.ensures
 
 pub returns : goal.returns
 returns c = grown_as
-    (all-targets c.requires.leading.linked c.requires.v_lt_nodes c.targets_start-end.ensures c.loop-i.invariant.1 c.loop-i-test.false)
-    c.loop-i.invariant.2
+    (all-targets c.requires.leading.linked c.requires.v_lt_nodes c.targets_start-end.ensures
+    (omega (arith, c.targets_start-start.ensures, c.targets_start-end.ensures, c.loop-i.auto.i-end, targets_rise c.requires.leading.linked c.requires.v_lt_nodes))
+    c.loop-i-test.false)
+    c.loop-i.invariant

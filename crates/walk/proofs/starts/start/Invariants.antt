@@ -1,11 +1,7 @@
-use Rattle.std.proofs.Common.{◌-◌, ◌≤◌}
 use Rattle.paper.specs.Walk.{start_nodes}
 use Rattle.paper.specs.Records.{records_in}
 use Rattle.walk.specs.Queue.{Grown}
 use Rattle.walk.proofs.starts.start.Given as goal
 
 abbrev pub invariant-loop-i : goal.invariant-loop-i
-invariant-loop-i l = (l.i ≤ l.count) × Grown l.initial.area l.room.queue l.at.sizes.nodes 0 (start_nodes l.b l.initial.area (records_in l.records l.i)) l.joined l.area
-
-abbrev pub decreases-loop-i : goal.decreases-loop-i
-decreases-loop-i l = l.count - l.i
+invariant-loop-i l = Grown l.initial.area l.room.queue l.at.sizes.nodes 0 (start_nodes l.b l.initial.area (records_in l.records l.i)) l.joined l.area

@@ -1,15 +1,14 @@
 -- `walk::starts::start_on` meets its contract: the node after the position joins, or there is none.
 -- Rests on Starting.
-use Rattle.std.proofs.Common.{ap, sym, ◌∙◌}
-use Rattle.lookup.specs.Said.{next_said}
+use Rattle.std.proofs.Common.{sym}
 use Rattle.walk.proofs.Starting.{nobody_next, next-joins}
 use Rattle.walk.proofs.starts.start_on.Goals as goal
 
 pub join-requires : goal.join-requires
-join-requires c = record { queued = c.requires.queued; v_lt_n = c.requires.known _ (sym c.next_on-next.ensures ∙ ap next_said c.in-Node.is) }
+join-requires c = record { queued = c.requires.queued; v_lt_n = c.requires.known _ (sym c.in-Some.ensures) }
 
-pub returns-in-End : goal.returns-in-End
-returns-in-End c = nobody_next c.requires (sym c.next_on-next.ensures ∙ ap next_said c.in-End.is)
+pub returns-in-None : goal.returns-in-None
+returns-in-None c = nobody_next c.requires (sym c.in-None.ensures)
 
-pub returns-in-Node : goal.returns-in-Node
-returns-in-Node c = next-joins c.requires (sym c.next_on-next.ensures ∙ ap next_said c.in-Node.is) c.join.ensures
+pub returns-in-Some : goal.returns-in-Some
+returns-in-Some c = next-joins c.requires (sym c.in-Some.ensures) c.join.ensures

@@ -1,10 +1,7 @@
-use Rattle.std.proofs.Common.{length, ◌-◌, ◌≡◌, ◌≤◌}
+use Rattle.std.proofs.Common.{◌≡◌}
 use lib.Seq.{sets}
 use Rattle.words.proofs.Turns.{first_words}
 use Rattle.words.proofs.bytes.words_from.Given as goal
 
 abbrev pub invariant-loop-i : goal.invariant-loop-i
-invariant-loop-i l = (l.i ≤ l.count) × (length l.words ≡ length l.initial.words) × (l.words ≡ sets l.initial.words 0 (first_words l.bytes l.i))
-
-abbrev pub decreases-loop-i : goal.decreases-loop-i
-decreases-loop-i l = l.count - l.i
+invariant-loop-i l = l.words ≡ sets l.initial.words 0 (first_words l.bytes l.i)
