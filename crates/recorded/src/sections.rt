@@ -8,7 +8,7 @@ use crate::comparing::is_list;
 use crate::line_parts::Part;
 use stepmap::read::read_map;
 use tables::{Layout, lay_out};
-use tallying::kind::Table;
+use tallying::kind::{Kind, Table};
 
 // The used part of a table's section, in an area of k lines: of the two lists as many entries are used as there are links and lines,
 // of the line starts k + 1.
@@ -42,7 +42,7 @@ fn is_part(area: &[u16], part: Part, words: &[u16]) -> bool
 }
 
 // Whether the line's list is what is used of the table's section.
-pub fn same_section(table: Table, words: &[u16], map: &[u8], area: &[u16]) -> bool
+pub fn same_table(table: Table, words: &[u16], map: &[u8], area: &[u16]) -> bool
     ensures { result ≡ true → SameSection (table_number table) words.now map.now area.now }
 {
     let Ok(sizes) = read_map(map) else {
@@ -53,4 +53,14 @@ pub fn same_section(table: Table, words: &[u16], map: &[u8], area: &[u16]) -> bo
     }
     let part = section(table, lay_out(sizes), usize::from(area[0]));
     is_part(area, part, words)
+}
+
+// The same of the table with a number; false where no table has it.
+pub fn same_section(kind: usize, words: &[u16], map: &[u8], area: &[u16]) -> bool
+    ensures { result ≡ true → SameSection kind words.now map.now area.now }
+{
+    match Kind::numbered(kind) {
+        Some(Kind::Written(table)) => same_table(table, words, map, area),
+        _ => false,
+    }
 }

@@ -10,7 +10,7 @@ use list_questions::{
 use record_questions::{prepares_to, same_extension, same_nodes, same_record_check};
 use recorded::comparing::same_words;
 use recorded::map_line::lay_line;
-use recorded::sections::same_section;
+use recorded::sections::same_table;
 use tallying::kind::{Kind, Question};
 use text::reader::read_list;
 
@@ -104,7 +104,7 @@ fn replay_kind(
             let size = lay_line(words, map);
             (size, prepare_again(words, &map[..size], area, kept))
         }
-        Kind::Written(table) => (size, same_section(table, words, &map[..size], area)),
+        Kind::Written(table) => (size, same_table(table, words, &map[..size], area)),
         Kind::Asked(question) => (size, ask_again(question, words, &map[..size], area, kept)),
     }
 }
