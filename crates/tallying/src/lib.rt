@@ -5,7 +5,7 @@ pub mod kind;
 
 ghost use Rattle.std.specs.Prelude.{◌≡◌, ◌+◌, ◌%◌, ◌^◌, ◌<◌, ◌≤◌, length, slice_index, slice_set};
 
-use kind::Kind;
+use kind::{Kind, Question};
 use std::io;
 use std::io::Write;
 
@@ -29,10 +29,14 @@ pub fn count_turn(counts: &mut [usize], kind: usize)
     }
 }
 
-// A line for each kind, in the order of their numbers.
+// A line for each kind, in the order of their numbers; counts past those go on under the last kind's name.
 pub fn write_tally(out: &mut impl Write, asked: &[usize], differing: &[usize]) -> io::Result<()> {
     for (number, (count, differ)) in asked.iter().zip(differing).enumerate() {
-        let name = Kind::numbered(number).map_or("unreadable lines", Kind::name);
+        let name = match Kind::numbered(number) {
+            Some(kind) => kind.name(),
+            None if number == UNREADABLE => "unreadable lines",
+            None => Kind::Asked(Question::OrderPorts).name(),
+        };
         writeln!(out, "{name} {count}, {differ} differ")?;
     }
     Ok(())
