@@ -7,3 +7,4 @@ pub mod Good
 pub mod Running
 pub mod Laying
 pub mod Starting
+pub mod Answers
